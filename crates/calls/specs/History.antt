@@ -1,0 +1,75 @@
+-- Lists of calls: "Each call gets the state and the spare area as the last one left them", its other arguments are arbitrary.
+-- The book beside them is fed arguments and answers only. Assumes nothing.
+use mathlib.Core.List.{List, [], _∷_}
+use mathlib.Core.Bool.{true, false}
+use Prim.Native.Nat.{ℕ}
+use lib.ListN.{getD, take}
+use Rattle.model.specs.Device.{Device}
+use Rattle.model.specs.State.{State}
+use Rattle.calls.specs.Outcome.{Lent, Answer, accepted, values, Outcome}
+use Rattle.calls.specs.Format.{format}
+use Rattle.calls.specs.Flush.{flush}
+use Rattle.calls.specs.Lookup.{lookup}
+use Rattle.calls.specs.Collection.{collect}
+use Rattle.calls.specs.Compaction.{compaction}
+use Rattle.calls.specs.Agreement.{agree}
+use Rattle.calls.specs.Book.{Book, Entry, formatEntry, flushEntry, collectEntry, noEntry, enter}
+
+-- A call with its arguments and lent lists, state and spare area aside. "Calls that write neither of the two, such as
+-- agreement, may come anywhere in the list": agreement is of any two states, this one's or others'.
+pub data Call : Type 0 where
+  formatCall : Device → Call
+  flushCall : (batch plan : List ℕ) → Call
+  lookupCall : (page : ℕ) → Call
+  collectCall : (plan erased : List ℕ) → Call
+  compactCall : (group : ℕ) → Call
+  agreeCall : (first : State) (firstSpare : List ℕ) (second : State) (secondSpare : List ℕ) → Call
+
+-- state and spare area, with the lists that a call brings
+unfoldable pub lend : State → List ℕ → List ℕ → List ℕ → Lent
+lend s spare plan erased = record { state = s; spare = spare; plan = plan; erased = erased }
+
+-- a call on a state and a spare area
+unfoldable pub run : Call → State → List ℕ → Outcome
+run (formatCall d) s spare = format d (lend s spare [] [])
+run (flushCall batch plan) s spare = flush batch (lend s spare plan [])
+run (lookupCall x) s spare = lookup x (lend s spare [] [])
+run (collectCall plan erased) s spare = collect (lend s spare plan erased)
+run (compactCall k) s spare = compaction k (lend s spare [] [])
+run (agreeCall a sa b sb) s spare = record { answer = agree a sa b sb; after = lend s spare [] [] }
+
+-- value i of an answer, in document 01's order
+unfoldable pub value : Answer → ℕ → ℕ
+value a i = getD (values a) i 0
+
+-- what the book is fed of an accepted call, from its arguments, its answer and its lists as it left them
+unfoldable pub acceptedEntry : Call → Answer → List ℕ → List ℕ → Entry
+acceptedEntry (formatCall d) a plan erased = formatEntry d
+acceptedEntry (flushCall batch _) a plan erased = flushEntry batch (value a 0) (value a 1) plan
+acceptedEntry (lookupCall x) a plan erased = noEntry
+acceptedEntry (collectCall _ _) a plan erased = collectEntry (value a 0) (value a 1) plan (take (value a 2) erased)
+acceptedEntry (compactCall k) a plan erased = noEntry
+acceptedEntry (agreeCall _ _ _ _) a plan erased = noEntry
+
+unfoldable pub entryOf : Call → Answer → List ℕ → List ℕ → Entry
+entryOf c a plan erased = elim (accepted a) [ true ↦ acceptedEntry c a plan erased | false ↦ noEntry ]
+
+-- What a list of calls leaves: state and spare area, and the book.
+pub record Past : Type 0 where
+  pub state : State
+  pub spare : List ℕ
+  pub book : Book
+
+unfoldable pub pastAfter : Call → Outcome → Book → Past
+pastAfter c o b = record {
+  state = o .after .state;
+  spare = o .after .spare;
+  book = enter (entryOf c (o .answer) (o .after .plan) (o .after .erased)) b;
+}
+
+unfoldable pub step : Call → Past → Past
+step c h = pastAfter c (run c (h .state) (h .spare)) (h .book)
+
+unfoldable pub steps : List Call → Past → Past
+steps [] h = h
+steps (c ∷ cs) h = steps cs (step c h)

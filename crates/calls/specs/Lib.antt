@@ -1,0 +1,10 @@
+pub mod Refusals
+pub mod Outcome
+pub mod Format
+pub mod Flush
+pub mod Lookup
+pub mod Collection
+pub mod Compaction
+pub mod Agreement
+pub mod Book
+pub mod History

@@ -1,0 +1,68 @@
+-- What a call is lent, what it answers and what it leaves. Assumes nothing.
+use mathlib.Core.List.{List, [], _∷_}
+use mathlib.Core.Option.{Option, none, some}
+use mathlib.Core.Bool.{Bool, true, false}
+use Prim.Native.Nat.{ℕ}
+use lib.Dec.{eqb}
+use Rattle.model.specs.State.{State}
+use Rattle.calls.specs.Refusals.{Refusal, refusalNumber, Check, firstRefusal}
+
+-- The lent slices: the state as it is read, the spare area, the plan, the list of erased blocks. A call that is not lent one
+-- of them leaves it as it is.
+pub record Lent : Type 0 where
+  pub state : State
+  pub spare : List ℕ
+  pub plan : List ℕ
+  pub erased : List ℕ
+
+-- The answers. Format: accepted. Flush: first page and count. Lookup: the page, the predicted page and how many levels were
+-- looked at, or 'not written' with the number of levels. Collection: first page, count and number erased. Compaction: the
+-- records left. Agreement: yes or no. Any call: refused.
+pub data Answer : Type 0 where
+  formatted : Answer
+  flushed : (first count : ℕ) → Answer
+  found : (page predicted levels : ℕ) → Answer
+  notWritten : (levels : ℕ) → Answer
+  collected : (first count erased : ℕ) → Answer
+  compacted : (left : ℕ) → Answer
+  agreed : Bool → Answer
+  refused : Refusal → Answer
+
+-- document 01's number of each case: 0 accepted, else the refusal's
+unfoldable pub number : Answer → ℕ
+number formatted = 0
+number (flushed p n) = 0
+number (found p q n) = 0
+number (notWritten n) = 0
+number (collected p n e) = 0
+number (compacted n) = 0
+number (agreed t) = 0
+number (refused r) = refusalNumber r
+
+unfoldable pub accepted : Answer → Bool
+accepted a = eqb (number a) 0
+
+-- and its values, in document 01's order
+unfoldable pub values : Answer → List ℕ
+values formatted = []
+values (flushed p n) = p ∷ n ∷ []
+values (found p q n) = p ∷ q ∷ n ∷ []
+values (notWritten n) = n ∷ []
+values (collected p n e) = p ∷ n ∷ e ∷ []
+values (compacted n) = n ∷ []
+values (agreed true) = 1 ∷ []
+values (agreed false) = 0 ∷ []
+values (refused r) = []
+
+pub record Outcome : Type 0 where
+  pub answer : Answer
+  pub after : Lent
+
+-- "A refused call gives the first refusal in that document's order that applies, and changes no byte of any buffer."
+unfoldable pub outcome : Option Refusal → Lent → Outcome → Outcome
+outcome none lent out = out
+outcome (some r) lent out = record { answer = refused r; after = lent }
+
+-- a call: its refusals in order, what it is lent, and what comes of it where none applies
+unfoldable pub unless : List Check → Lent → Outcome → Outcome
+unless checks lent out = outcome (firstRefusal checks) lent out

@@ -1,0 +1,3 @@
+pub mod Shown
+pub mod Opens
+pub mod Table

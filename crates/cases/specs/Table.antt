@@ -1,0 +1,106 @@
+-- Document 01, 'Cases': those marked P, as one table. What the definitions give is what the document says. Assumes nothing.
+use mathlib.Core.Path.{_≡_, refl}
+use mathlib.Core.List.{List, [], _∷_, _++_}
+use Prim.Native.Nat.{ℕ, zero, suc}
+use lib.IntN.{pos, negsuc}
+use lib.ListN.{replicate}
+use Rattle.model.specs.Device.{Device, stateLength, spareLength}
+use Rattle.calls.specs.Refusals.{noFreeBlock}
+use Rattle.calls.specs.Outcome.{formatted, flushed, found, collected, refused}
+use Rattle.calls.specs.Book.{blankBook}
+use Rattle.calls.specs.History.{Call, formatCall, flushCall, lookupCall, collectCall, Past, step, steps}
+use Rattle.cases.specs.Shown.{Shown, records, predictions, plan, answer, row, learned, predicted, planned, called, lookups}
+use Rattle.cases.specs.Opens.{everything}
+
+-- the n logical pages from x on
+pages : ℕ → ℕ → List ℕ
+pages zero x = []
+pages (suc n) x = x ∷ pages n (suc x)
+
+-- buffers of the right lengths for a device, before its format; what they hold is of no account
+unformatted : Device → Past
+unformatted d = record {
+  state = record { bytes = stateLength d; device = d; counts = []; groups = [] };
+  spare = replicate (spareLength d) 7;
+  book = blankBook;
+}
+
+-- "M 3, B 4, N 4, g 0": lent lists full of 99, so that the entries that stay are seen
+small : Device
+small = record { M = 3; B = 4; N = 4; g = 0 }
+
+smallCalls : List Call
+smallCalls =
+    let four : List ℕ = replicate 4 99 in
+    let three : List ℕ = replicate 3 99 in
+    formatCall small ∷ flushCall (0 ∷ []) four ∷ flushCall (0 ∷ []) four ∷ flushCall (0 ∷ []) four ∷ collectCall four three ∷ lookupCall 0 ∷ []
+
+-- "Script (M 9, B 64, N 256, g 1; after the paper's figure 13)"
+scripted : Device
+scripted = record { M = 9; B = 64; N = 256; g = 1 }
+
+-- a flush with a plan of B entries
+flushOf : List ℕ → Call
+flushOf batch = flushCall batch (replicate 64 0)
+
+-- "flush 0 to 63; 200 to 255; 16 to 31; 75, 78, 82; 72, 73, 80"
+early : Past
+early =
+    steps (formatCall scripted ∷ flushOf (pages 64 0) ∷ flushOf (pages 56 200) ∷ flushOf (pages 16 16)
+    ∷ flushOf (75 ∷ 78 ∷ 82 ∷ []) ∷ flushOf (72 ∷ 73 ∷ 80 ∷ []) ∷ []) (unformatted scripted)
+
+-- "Flush 32 to 90."
+late : Past
+late = step (flushOf (pages 59 32)) early
+
+-- what the definitions give
+pub given : List Shown
+given =
+    learned 0 0 (100 ∷ 102 ∷ 104 ∷ 106 ∷ [])
+    ∷ learned 0 64 (101 ∷ 103 ∷ [])
+    ∷ learned 1 64 (0 ∷ 1 ∷ 4 ∷ 5 ∷ [])
+    ∷ predicted 1 64 (0 ∷ 1 ∷ 4 ∷ 5 ∷ [])
+    ∷ learned 0 64 (0 ∷ 1 ∷ 4 ∷ 5 ∷ [])
+    ∷ learned 0 0 (255 ∷ 256 ∷ [])
+    ∷ learned 1 0 (255 ∷ 256 ∷ [])
+    ∷ planned (7 ∷ 7 ∷ [])
+    ∷ (called smallCalls (unformatted small) ++ (lookups early (50 ∷ 78 ∷ 82 ∷ []) ++ lookups late (78 ∷ [])))
+
+-- what document 01 says; an answer's numbers in its order, so a lookup's are page, predicted page, levels
+pub stated : List Shown
+stated =
+    -- "g 0, batch 100, 102, 104, 106 from page 0: 100, 6, 4, −50"
+    records (row 0 100 6 4 (negsuc 49) ∷ [])
+    -- "g 0, batch 101, 103 from page 64: 101, 2, 4, 13"
+    ∷ records (row 0 101 2 4 (pos 13) ∷ [])
+    -- "g 1, batch 0, 1, 4, 5 from page 64: 0, 5, 3, 65; predictions 65, 66, 66, 66"
+    ∷ records (row 0 0 5 3 (pos 65) ∷ [])
+    ∷ predictions (pos 65 ∷ pos 66 ∷ pos 66 ∷ pos 66 ∷ [])
+    -- "g 0, the same: 0, 1, 2, 64 and 4, 1, 2, 62"
+    ∷ records (row 0 0 1 2 (pos 64) ∷ row 0 4 1 2 (pos 62) ∷ [])
+    -- "batch 255, 256 from page 0: singles 255, 0, 0, 0 and 0, 0, 0, 1 in two groups", at g 0 and at g 1
+    ∷ records (row 0 255 0 0 (pos 0) ∷ row 1 0 0 0 (pos 1) ∷ [])
+    ∷ records (row 0 255 0 0 (pos 0) ∷ row 1 0 0 0 (pos 1) ∷ [])
+    -- "batch 7, 7: one page, plan entry 1"
+    ∷ plan (1 ∷ [])
+    -- "flush 0, flush 0, a third refused 6; collection erases 0, 1, copies page 4 to 8; lookup 0 gives page 8"
+    ∷ answer formatted [] []
+    ∷ answer (flushed 0 1) (0 ∷ 99 ∷ 99 ∷ 99 ∷ []) []
+    ∷ answer (flushed 4 1) (0 ∷ 99 ∷ 99 ∷ 99 ∷ []) []
+    ∷ answer (refused noFreeBlock) (99 ∷ 99 ∷ 99 ∷ 99 ∷ []) []
+    ∷ answer (collected 8 1 2) (4 ∷ 99 ∷ 99 ∷ 99 ∷ []) (0 ∷ 1 ∷ 99 ∷ [])
+    ∷ answer (found 8 8 1) [] []
+    -- "lookup 50: page 50, 2 levels"
+    ∷ answer (found 50 50 2) [] []
+    -- "lookup 78: page 193, 2 levels"
+    ∷ answer (found 193 193 2) [] []
+    -- "lookup 82: predicted 193, page 194"
+    ∷ answer (found 194 193 2) [] []
+    -- "lookup 78: page 366, 1 level"
+    ∷ answer (found 366 366 1) [] []
+    ∷ []
+
+-- The table.
+pub table : given ≡ stated
+unfolding everything pages unformatted small smallCalls scripted flushOf early late given stated
+table = refl

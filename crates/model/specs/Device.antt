@@ -1,0 +1,69 @@
+-- Document 01, 'The device': the device numbers, pages, blocks, groups, and the lengths they give. Assumes nothing.
+use mathlib.Core.Bool.{Bool, _&&_}
+use Prim.Native.Nat.{ℕ, _+_, _*_, _-_, _/_, _%_}
+use lib.Dec.{leb}
+
+-- a / b rounded up, for b at least 1
+abbrev pub ceil : ℕ → ℕ → ℕ
+ceil a b = (a + (b - 1)) / b
+
+-- The device numbers: M blocks of B pages, N logical pages, the error bound g (the paper's gamma).
+pub record Device : Type 0 where
+  pub M : ℕ
+  pub B : ℕ
+  pub N : ℕ
+  pub g : ℕ
+
+-- "M blocks (3 to 4,096) of B pages (4 to 256), N logical pages (at least 1, with 2 × N at most (M − 1) × B)
+-- and an error bound g (0 to 15)"
+unfoldable pub withinLimits : Device → Bool
+withinLimits d =
+    (leb 3 (d .M) && leb (d .M) 4096)
+    && (leb 4 (d .B) && leb (d .B) 256)
+    && (leb 1 (d .N) && leb (2 * d .N) ((d .M - 1) * d .B))
+    && leb (d .g) 15
+
+-- how many pages the device has; "Page numbers run from 0"
+unfoldable pub pages : Device → ℕ
+pages d = d .M * d .B
+
+-- "block k holds pages k × B to k × B + B − 1": its first page
+unfoldable pub firstPage : Device → ℕ → ℕ
+firstPage d k = k * d .B
+
+-- "A logical page's group is its number divided by 256 .."
+abbrev pub groupOf : ℕ → ℕ
+groupOf x = x / 256
+
+-- ".. its offset the remainder"
+abbrev pub offsetOf : ℕ → ℕ
+offsetOf x = x % 256
+
+-- how many groups the logical pages have
+unfoldable pub groupCount : Device → ℕ
+groupCount d = ceil (d .N) 256
+
+-- "Each page has 2g + 1 spare entries"
+unfoldable pub entriesPerPage : Device → ℕ
+entriesPerPage d = 2 * d .g + 1
+
+-- the spare entries of a block
+unfoldable pub entriesPerBlock : Device → ℕ
+entriesPerBlock d = d .B * entriesPerPage d
+
+-- the length of the spare area, in entries
+unfoldable pub spareLength : Device → ℕ
+spareLength d = d .M * entriesPerBlock d
+
+-- The length of the state in bytes (docs/LAYOUT.md): the device numbers, a count for each block, the groups.
+unfoldable pub headLength : ℕ
+headLength = 16
+
+unfoldable pub countLength : ℕ
+countLength = 2
+
+unfoldable pub groupLength : ℕ
+groupLength = 5636
+
+unfoldable pub stateLength : Device → ℕ
+stateLength d = headLength + d .M * countLength + groupCount d * groupLength

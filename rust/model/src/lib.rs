@@ -1,0 +1,30 @@
+//! A model of Hedjosur, the gateway's learned page table.
+//!
+//! The model says what document 01 says, in vectors and sets instead of bytes,
+//! plainly and slowly. Its modules follow that document's sections:
+//!
+//! - [`device`]: the limits, groups and offsets, and [`state`]: what a state holds
+//! - [`spare`]: the spare area, a layer of its own
+//! - [`record`]: the kinds of records, their members and predictions
+//! - [`learn`]: learning a batch
+//! - [`levels`]: the levels of a group, and [`sound`]: when a group is sound
+//! - [`ops`]: the operations, each with its refusals in order
+//! - [`book`]: what each page carries, told from calls and answers alone
+//! - [`script`]: the listing program
+//!
+//! [`testing`] holds the seeded generators that the tests share.
+
+#![forbid(unsafe_code)]
+#![warn(missing_docs)]
+
+pub mod book;
+pub mod device;
+pub mod learn;
+pub mod levels;
+pub mod ops;
+pub mod record;
+pub mod script;
+pub mod sound;
+pub mod spare;
+pub mod state;
+pub mod testing;

@@ -1,0 +1,49 @@
+//! Agreement.
+
+use super::lookup::seek;
+use super::{require, Refusal};
+use crate::device::{group_of, Device};
+use crate::sound::state_is_sound;
+use crate::state::{Lent, State};
+
+/// Agreement of two states, each with its spare area: 'yes if N is equal and
+/// every lookup gives the same page, or 'not written' in both. It refuses 1, 2,
+/// 3 for the first state, then the second, then 7 if any lookup does.'
+pub fn agreement(one: (&Lent, &[u32]), other: (&Lent, &[u32])) -> Result<bool, Refusal> {
+    let (one, other) = (whole(one)?, whole(other)?);
+    let lookups = (one.lookups()?, other.lookups()?);
+    Ok(lookups.0 == lookups.1)
+}
+
+/// A state and its spare area that passed 1, 2 and 3.
+struct Whole<'a> {
+    device: Device,
+    state: &'a State,
+    area: &'a [u32],
+}
+
+/// Refuses 1, 2 and 3 for one state with its spare area.
+fn whole<'a>((lent, area): (&'a Lent, &'a [u32])) -> Result<Whole<'a>, Refusal> {
+    let (device, state) = lent.open()?;
+    require(area.len() == device.spare_length(), Refusal::Length)?;
+    require(state_is_sound(&device, state), Refusal::NotSound)?;
+    Ok(Whole {
+        device,
+        state,
+        area,
+    })
+}
+
+impl Whole<'_> {
+    /// The page of every logical page below N, None for 'not written'; two such
+    /// lists are equal only if N is.
+    fn lookups(&self) -> Result<Vec<Option<u32>>, Refusal> {
+        (0..self.device.logical_pages)
+            .map(|logical_page| {
+                let group = &self.state.groups[group_of(logical_page)];
+                let answer = seek(&self.device, group, self.area, logical_page)?;
+                Ok(answer.page())
+            })
+            .collect()
+    }
+}

@@ -1,0 +1,105 @@
+//! Collection.
+
+use std::collections::BTreeMap;
+
+use super::lookup::seek;
+use super::{require, store, Refusal};
+use crate::device::{group_of, Device};
+use crate::sound::state_is_sound;
+use crate::spare;
+use crate::state::{Lent, State};
+
+/// Collection 'answers first page (0 if count is 0), count and number erased'.
+#[derive(Clone, Copy, Debug, PartialEq, Eq)]
+pub struct Collected {
+    /// The first page written, 0 if none.
+    pub first: u32,
+    /// How many pages were written.
+    pub count: u32,
+    /// How many blocks were erased.
+    pub erased: u32,
+}
+
+/// Collection: 'valid pages are put, sorted by logical page, on the
+/// lowest-numbered free block (none is needed for total 0) and learned; then the
+/// taken blocks are erased. [...] the plan gets source pages, a second list (M
+/// entries) the erased blocks in order; unused entries stay. After 1 and 2: 3; 8,
+/// no block is used, or one is taken with total above 0; 6, a free block is
+/// needed and none exists.'
+pub fn collection(
+    lent: &mut Lent,
+    area: &mut [u32],
+    plan: &mut [u32],
+    erased: &mut [u32],
+) -> Result<Collected, Refusal> {
+    let (device, state) = lent.open_mut()?;
+    require(area.len() == device.spare_length(), Refusal::Length)?;
+    require(plan.len() == device.block_pages as usize, Refusal::Length)?;
+    require(erased.len() == device.blocks as usize, Refusal::Length)?;
+    require(state_is_sound(&device, state), Refusal::NotSound)?;
+    let taken = taken_blocks(&device, state, area);
+    // Each logical page to move, ascending, with the page it is on.
+    let moved: BTreeMap<u32, u32> = taken
+        .iter()
+        .flat_map(|&block| valid_pages(&device, state, area, block))
+        .collect();
+    let gains = taken.len() >= 2 || (taken.len() == 1 && moved.is_empty());
+    require(gains, Refusal::NothingToGain)?;
+    let free = state.free_blocks().first().copied();
+    require(moved.is_empty() || free.is_some(), Refusal::NoFreeBlock)?;
+
+    let sorted: Vec<u32> = moved.keys().copied().collect();
+    let first = match free {
+        Some(block) if !sorted.is_empty() => store(&device, state, area, block, &sorted),
+        _ => 0,
+    };
+    for (entry, source) in plan.iter_mut().zip(moved.into_values()) {
+        *entry = source;
+    }
+    for (entry, &block) in erased.iter_mut().zip(&taken) {
+        spare::erase(&device, area, block);
+        state.counts[block as usize] = 0;
+        *entry = block;
+    }
+    Ok(Collected {
+        first,
+        count: sorted.len() as u32,
+        erased: taken.len() as u32,
+    })
+}
+
+/// 'Used blocks are ordered by valid pages, fewest first, ties by number, and
+/// taken while the total is at most B.'
+fn taken_blocks(device: &Device, state: &State, area: &[u32]) -> Vec<u32> {
+    let mut used: Vec<(usize, u32)> = state
+        .used_blocks()
+        .into_iter()
+        .map(|block| (valid_pages(device, state, area, block).len(), block))
+        .collect();
+    used.sort_unstable();
+    let mut total = 0;
+    used.into_iter()
+        .take_while(|(valid, _)| {
+            total += valid;
+            total <= device.block_pages as usize
+        })
+        .map(|(_, block)| block)
+        .collect()
+}
+
+/// The valid pages of a block, as logical page and page: 'a page is valid if its
+/// middle entry is below N and lookup of that gives this page'. A lookup that
+/// would refuse makes the page not valid.
+fn valid_pages(device: &Device, state: &State, area: &[u32], block: u32) -> Vec<(u32, u32)> {
+    device
+        .pages_of_block(block)
+        .map(|page| (spare::middle(device, area, page), page))
+        .filter(|&(logical_page, page)| {
+            logical_page < device.logical_pages && {
+                let group = &state.groups[group_of(logical_page)];
+                let answer = seek(device, group, area, logical_page);
+                answer.is_ok_and(|found| found.page() == Some(page))
+            }
+        })
+        .collect()
+}

@@ -1,0 +1,48 @@
+//! Flush.
+
+use super::{require, store, Refusal};
+use crate::learn::last_arrivals;
+use crate::sound::state_is_sound;
+use crate::state::Lent;
+
+/// Flush 'answers first page and count'.
+#[derive(Clone, Copy, Debug, PartialEq, Eq)]
+pub struct Flushed {
+    /// The first page written.
+    pub first: u32,
+    /// How many pages were written.
+    pub count: u32,
+}
+
+/// Flush 'takes up to B logical pages in arrival order. It answers first page
+/// and count, and writes into a plan of B entries (32 bits), for each page
+/// written, the arrival index (from 0) stored there; later entries stay. After
+/// 1 and 2: 3, state not sound; 5, batch empty or longer than B; 4, a logical
+/// page is N or more; 6, fewer than two free blocks.'
+pub fn flush(
+    lent: &mut Lent,
+    area: &mut [u32],
+    batch: &[u32],
+    plan: &mut [u32],
+) -> Result<Flushed, Refusal> {
+    let (device, state) = lent.open_mut()?;
+    require(area.len() == device.spare_length(), Refusal::Length)?;
+    require(plan.len() == device.block_pages as usize, Refusal::Length)?;
+    require(state_is_sound(&device, state), Refusal::NotSound)?;
+    let longest = device.block_pages as usize;
+    require((1..=longest).contains(&batch.len()), Refusal::BatchLength)?;
+    let exists = |&logical_page: &u32| logical_page < device.logical_pages;
+    require(batch.iter().all(exists), Refusal::OutOfRange)?;
+    let free = state.free_blocks();
+    require(free.len() >= 2, Refusal::NoFreeBlock)?;
+
+    // 'A flush always opens a block, and a block is never added to.'
+    let kept = last_arrivals(batch);
+    let sorted: Vec<u32> = kept.keys().copied().collect();
+    let first = store(&device, state, area, free[0], &sorted);
+    for (entry, arrival) in plan.iter_mut().zip(kept.into_values()) {
+        *entry = arrival;
+    }
+    let count = sorted.len() as u32;
+    Ok(Flushed { first, count })
+}

@@ -1,0 +1,28 @@
+//! Format.
+
+use super::{require, Refusal};
+use crate::device::Device;
+use crate::levels::Group;
+use crate::spare::NOBODY;
+use crate::state::{Lent, State};
+
+/// Format 'writes M, B, N, g, frees all blocks, empties all groups and fills
+/// every spare entry with 4,294,967,295. It refuses 1 when a device number is
+/// outside its limits, then 2 when state or spare area hasn't exactly the length
+/// these numbers give.'
+pub fn format(lent: &mut Lent, area: &mut [u32], numbers: [u32; 4]) -> Result<(), Refusal> {
+    let device = Device::new(numbers).ok_or(Refusal::DeviceNumbers)?;
+    let state = match lent {
+        Lent::Held(state) if state.fits(&device) => state,
+        _ => return Err(Refusal::Length),
+    };
+    require(area.len() == device.spare_length(), Refusal::Length)?;
+
+    *state = State {
+        numbers,
+        counts: vec![0; device.blocks as usize],
+        groups: vec![Group::default(); device.groups()],
+    };
+    area.fill(NOBODY);
+    Ok(())
+}
