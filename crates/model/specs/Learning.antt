@@ -1,6 +1,6 @@
 -- Document 01, 'Learning a batch': last arrivals, sorting, runs and their records. Assumes nothing.
 use mathlib.Core.List.{List, [], _∷_}
-use mathlib.Core.Bool.{Bool, true, false}
+use mathlib.Core.Bool.{true, false}
 use Prim.Native.Nat.{ℕ, zero, suc, _+_, _*_, _-_, min, max}
 use lib.Dec.{ltb, leb, eqb}
 use lib.IntN.{pos, subℕ}

@@ -1,7 +1,7 @@
 -- Document 01, 'Levels', its last paragraph: when a group is sound, and a state. Assumes nothing.
 use mathlib.Core.List.{List, [], _∷_, _++_}
 use mathlib.Core.Bool.{Bool, true, false, _&&_}
-use Prim.Native.Nat.{ℕ, zero, suc, _+_, _*_, _%_}
+use Prim.Native.Nat.{ℕ, suc, _+_, _*_, _%_}
 use lib.Dec.{ltb, leb, eqb}
 use Rattle.model.specs.Lists.{all, distinct, ascending, lastOf}
 use Rattle.model.specs.Record.{Record, Kind, single, accurate, approximate, kind, end}

@@ -4,7 +4,7 @@ use mathlib.Core.Bool.{true, false}
 use Prim.Native.Nat.{ℕ, suc}
 use lib.Dec.{eqb}
 use lib.ListN.{getD}
-use Rattle.model.specs.Device.{Device, groupOf}
+use Rattle.model.specs.Device.{Device}
 use Rattle.model.specs.Levels.{Group}
 
 -- The state, "a lent byte slice, holds M, B, N, g, each block's count of written pages (0 is free) and the groups". Beside
