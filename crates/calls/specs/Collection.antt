@@ -1,7 +1,7 @@
 -- Document 01, 'Operations': collection. Assumes nothing.
 use mathlib.Core.List.{List, [], _∷_, _++_, map}
 use mathlib.Core.Bool.{Bool, true, false, not, _&&_, _||_}
-use Prim.Native.Nat.{ℕ, zero, suc, _+_, _-_}
+use Prim.Native.Nat.{ℕ, _-_}
 use lib.Dec.{ltb, leb, eqb}
 use lib.ListN.{length, set}
 use Rattle.model.specs.Lists.{store, select}
@@ -11,7 +11,7 @@ use Rattle.model.specs.Learning.{Write, sort}
 use Rattle.model.specs.State.{State, withCounts, freeBlocks, usedBlocks, lowestFree}
 use Rattle.model.specs.Sound.{soundState, isEmpty}
 use Rattle.calls.specs.Refusals.{Check, _when_, badNumbers, badLength, notSound, noFreeBlock, nothingToGain, numbersMissing, wrongState, wrongSpare, wrongLength}
-use Rattle.calls.specs.Outcome.{Lent, Answer, collected, Outcome, unless}
+use Rattle.calls.specs.Outcome.{Lent, collected, Outcome, unless}
 use Rattle.calls.specs.Flush.{writeBlock}
 use Rattle.calls.specs.Lookup.{Sought, at, nowhere, unnamed, seek}
 

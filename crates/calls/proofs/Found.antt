@@ -1,0 +1,108 @@
+-- Under the invariant a lookup finds where a logical page lies, and which pages are valid. Assumes nothing.
+use mathlib.Core.Path.{_≡_, refl, sym, _∙_, ap}
+use mathlib.Core.List.{List, [], _∷_}
+use mathlib.Core.Option.{Option, none, some}
+use mathlib.Core.Bool.{true≢false, Bool, true, false}
+use Prim.Native.Nat.{ℕ, zero, suc, _+_, _≤_, _<_}
+use native.Mathlib.Omega.{arith}
+use lib.Dec.{ltb, leb}
+use lib.ListN.{length, getD}
+use lib.IntN.{pos}
+use borrow.Author.Tests.{lt-ltb, ltb-true, eqb-true, eq-eqb, leb-true}
+use Rattle.model.specs.Lists.{elem, all}
+use Rattle.model.specs.Device.{firstPage, pages, offsetOf, groupOf}
+use Rattle.model.specs.Record.{predict}
+use Rattle.model.specs.Spare.{nobody, middle, pageNamed}
+use Rattle.model.specs.Levels.{listing, levelsTo}
+use Rattle.model.specs.State.{State, groupAt}
+use Rattle.model.specs.Sound.{soundState, soundGroups}
+use Rattle.model.proofs.Lists.{getD-default}
+use Rattle.model.proofs.Bools.{and-l, and-r, and-i, all-head, all-tail}
+use Rattle.model.proofs.Limits.{limits, page-inside, N-below-nobody}
+use Rattle.model.proofs.Holder.{met-none, met-some, predict-line}
+use Rattle.model.proofs.Image.{image-middle}
+use Rattle.model.proofs.PageNamed.{page-named}
+use Rattle.calls.specs.Lookup.{at, nowhere, unnamed, soughtNamed, soughtAt, soughtBy, seek}
+use Rattle.calls.specs.Collection.{gives, valid}
+use Rattle.calls.proofs.Invariant.{Lies, Inv}
+
+-- every count of a list that passes `all` is within the bound
+counts-below : (b : ℕ) (cs : List ℕ) (k : ℕ) → all (λ c. leb c b) cs ≡ true → getD cs k 0 ≤ b
+counts-below b [] k h = omega arith
+counts-below b (c ∷ cs) zero h = leb-true c b (all-head (λ c. leb c b) c cs h)
+counts-below b (c ∷ cs) (suc k) h = counts-below b cs k (all-tail (λ c. leb c b) c cs h)
+
+module _ (s : State) (spare : List ℕ) (image : ℕ → List ℕ) (place : ℕ → Option ℕ) (v : Inv s spare image place) where
+  -- A block's image fits the block.
+  pub image-fits : (k : ℕ) → k < s .device .M → length (image k) ≤ s .device .B
+  unfolding soundState
+  image-fits k h =
+      let c : getD (s .counts) k 0 ≤ s .device .B = counts-below (s .device .B) (s .counts) k (and-r (soundGroups (s .device .N) 0 (s .groups)) _ (v .sound)) in
+      omega (arith, v .imaged .count k h)
+
+  -- Logical pages are below the number that names nobody.
+  pub image-named : (k : ℕ) → k < s .device .M → (x : ℕ) → elem x (image k) ≡ true → x < nobody
+  image-named k h x e = omega (arith, v .imaged .logical k h x e, N-below-nobody (s .device) (limits (s .device) (v .limits)))
+
+  -- What a lookup answers: the page that x lies on, with a predicted page of the same block.
+  pub record Answers (x p : ℕ) (l : Lies s image x p) : Type 0 where
+    pub levels : ℕ
+    pub sought : seek s spare x ≡ at p (firstPage (s .device) (l .block) + l .near) levels
+
+  -- A logical page that lies on page p is found there.
+  pub seek-found : (x p : ℕ) (l : Lies s image x p) → Answers x p l
+  unfolding seek soughtBy soughtAt soughtNamed
+  seek-found x p l =
+      let q : ℕ = firstPage (s .device) (l .block) + l .near in
+      let fits : length (image (l .block)) ≤ s .device .B = image-fits (l .block) (l .inside) in
+      let nearIn : l .near < s .device .B = omega (arith, l .nearWritten) in
+      let exists : ltb q (pages (s .device)) ≡ true = lt-ltb q (pages (s .device)) (page-inside (s .device) (l .block) (l .near) (l .inside) nearIn) in
+      let named : pageNamed (s .device) spare q x ≡ some (firstPage (s .device) (l .block) + l .slot) =
+      page-named (s .device) spare (l .block) (image (l .block)) (l .slot) (l .near) x q (v .imaged .entries (l .block) (l .inside)) (v .imaged .ascends (l .block) (l .inside))
+      fits (image-named (l .block) (l .inside)) (l .inside) (l .written) (l .carries) refl (l .nearWritten) (l .above) (l .below) in
+      let n : ℕ = levelsTo (offsetOf x) (groupAt s (groupOf x)) in
+      let m = met-some (offsetOf x) (listing (groupAt s (groupOf x))) (l .line) (l .isMet) in
+      let z : predict (m .0) (offsetOf x) ≡ pos q = predict-line (m .0) (l .line) (offsetOf x) (m .2) ∙ l .predicts in
+      record {
+        levels = n;
+        sought =
+            ap (soughtBy (s .device) spare x n) (m .1)
+            ∙ ap (soughtAt (s .device) spare x n) z
+            ∙ ap (λ (t : Bool). elim t [ true ↦ soughtNamed n q (pageNamed (s .device) spare q x) | false ↦ unnamed ]) exists
+            ∙ ap (soughtNamed n q) named
+            ∙ ap (λ (y : ℕ). at y q n) (sym (l .page));
+      }
+
+  -- A logical page that lies nowhere is not found.
+  pub seek-nowhere : (x : ℕ) → x < s .device .N → place x ≡ none → seek s spare x ≡ nowhere (levelsTo (offsetOf x) (groupAt s (groupOf x)))
+  unfolding seek soughtBy
+  seek-nowhere x h e =
+      ap (soughtBy (s .device) spare x (levelsTo (offsetOf x) (groupAt s (groupOf x)))) (met-none (offsetOf x) (listing (groupAt s (groupOf x))) (v .unplaced x h e))
+
+  -- A page on which a logical page lies is valid.
+  pub lies-valid : (x p : ℕ) → x < s .device .N → Lies s image x p → (middle (s .device) spare p ≡ x) × (valid s spare p ≡ true)
+  unfolding valid gives
+  lies-valid x p h l =
+      let fits : length (image (l .block)) ≤ s .device .B = image-fits (l .block) (l .inside) in
+      let e : middle (s .device) spare p ≡ x =
+      ap (middle (s .device) spare) (l .page)
+      ∙ image-middle (s .device) spare (l .block) (image (l .block)) (l .slot) (v .imaged .entries (l .block) (l .inside)) (omega (arith, l .written))
+      ∙ getD-default (image (l .block)) (l .slot) nobody 0 (l .written) ∙ l .carries in
+      let a = seek-found x p l in
+      let g : gives p (seek s spare x) ≡ true = ap (gives p) (a .sought) ∙ eq-eqb p p refl in
+      (e, rw e (and-i _ _ (lt-ltb x (s .device .N) h) g))
+
+  -- A valid page is one on which its logical page lies.
+  pub valid-lies : (p : ℕ) → valid s spare p ≡ true → (middle (s .device) spare p < s .device .N) × (place (middle (s .device) spare p) ≡ some p)
+  unfolding valid gives
+  valid-lies p h =
+      let x : ℕ = middle (s .device) spare p in
+      let b : x < s .device .N = ltb-true x (s .device .N) (and-l _ _ h) in
+      (b, go x b (place x) refl (and-r (ltb x (s .device .N)) _ h))
+    where
+      go : (x : ℕ) → x < s .device .N → (o : Option ℕ) → place x ≡ o → gives p (seek s spare x) ≡ true → place x ≡ some p
+      go x b none e g = absurd (true≢false (sym g ∙ ap (gives p) (seek-nowhere x b e)))
+      go x b (some p′) e g =
+          let a = seek-found x p′ (v .placed x p′ b e) in
+          let q : p ≡ p′ = eqb-true p p′ (sym (ap (gives p) (a .sought)) ∙ g) in
+          e ∙ ap (λ (y : ℕ). some y) (sym q)

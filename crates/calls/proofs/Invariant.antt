@@ -1,0 +1,137 @@
+-- What holds of state and spare area from a format on: the state is sound, each block has the image of what was written there,
+-- and each logical page that lies somewhere is met by a record that predicts a page near it. Assumes nothing.
+use mathlib.Core.Path.{_≡_, refl, sym, _∙_, ap, subst}
+use mathlib.Core.List.{List, [], _∷_}
+use mathlib.Core.Option.{Option, none, some}
+use mathlib.Core.Logic.{_≢_, _⊎_, inl, inr}
+use mathlib.Core.Bool.{true≢false, Bool, true, false}
+use Prim.Native.Nat.{ℕ, suc, _+_, _≤_, _<_}
+use native.Mathlib.Omega.{arith}
+use lib.Dec.{eqb}
+use lib.ListN.{length, getD, set}
+use lib.Seq.{getD-set-same, getD-set-other}
+use lib.IntN.{pos}
+use borrow.Author.Tests.{eqb-true, eqb-false, eq-eqb, ne-eqb}
+use Rattle.model.specs.Lists.{elem}
+use Rattle.model.specs.Device.{Device, withinLimits, firstPage, offsetOf, groupOf, groupCount, stateLength, spareLength}
+use Rattle.model.specs.Levels.{listing}
+use Rattle.model.specs.State.{State, groupAt}
+use Rattle.model.specs.Sound.{soundState}
+use Rattle.model.proofs.Lists.{Asc, elem-cons, no-elem}
+use Rattle.model.proofs.Bools.{is-false}
+use Rattle.model.proofs.Line.{Line, met, linePredict}
+use Rattle.model.proofs.Image.{Image}
+
+-- Logical page x lies on page p: at place `slot` of `block`, whose image has x there; and the record met first for x predicts
+-- the page at place `near` of the same block, a written one within g of p.
+pub record Lies (s : State) (image : ℕ → List ℕ) (x p : ℕ) : Type 0 where
+  pub block : ℕ
+  pub slot : ℕ
+  pub near : ℕ
+  pub line : Line
+  pub inside : block < s .device .M
+  pub page : p ≡ firstPage (s .device) block + slot
+  pub written : slot < length (image block)
+  pub carries : getD (image block) slot 0 ≡ x
+  pub isMet : met (offsetOf x) (listing (groupAt s (groupOf x))) ≡ some line
+  pub predicts : linePredict line (offsetOf x) ≡ pos (firstPage (s .device) block + near)
+  pub nearWritten : near < length (image block)
+  pub above : slot ≤ near + s .device .g
+  pub below : near ≤ slot + s .device .g
+
+-- Each block has the spare entries of its image: as many logical pages as its count says, ascending, all below N.
+pub record Imaged (d : Device) (counts spare : List ℕ) (image : ℕ → List ℕ) : Type 0 where
+  pub entries : (k : ℕ) → k < d .M → Image d spare k (image k)
+  pub count : (k : ℕ) → k < d .M → length (image k) ≡ getD counts k 0
+  pub ascends : (k : ℕ) → k < d .M → Asc 0 (image k)
+  pub logical : (k : ℕ) → k < d .M → (x : ℕ) → elem x (image k) ≡ true → x < d .N
+
+-- The invariant, for the images of the blocks and the page map: where each logical page lies.
+pub record Inv (s : State) (spare : List ℕ) (image : ℕ → List ℕ) (place : ℕ → Option ℕ) : Type 0 where
+  pub limits : withinLimits (s .device) ≡ true
+  pub bytes : s .bytes ≡ stateLength (s .device)
+  pub counted : length (s .counts) ≡ s .device .M
+  pub grouped : length (s .groups) ≡ groupCount (s .device)
+  pub spared : length spare ≡ spareLength (s .device)
+  pub sound : soundState s ≡ true
+  pub imaged : Imaged (s .device) (s .counts) spare image
+  pub placed : (x p : ℕ) → x < s .device .N → place x ≡ some p → Lies s image x p
+  pub unplaced : (x : ℕ) → x < s .device .N → place x ≡ none → met (offsetOf x) (listing (groupAt s (groupOf x))) ≡ none
+
+-- a function of blocks with another value at block k
+unfoldable pub update : ℕ → List ℕ → (ℕ → List ℕ) → ℕ → List ℕ
+update k v f j = elim (eqb j k) [ true ↦ v | false ↦ f j ]
+
+pub update-here : (k : ℕ) (v : List ℕ) (f : ℕ → List ℕ) → update k v f k ≡ v
+unfolding update
+update-here k v f = rw (eq-eqb k k refl, update)
+
+pub update-other : (k : ℕ) (v : List ℕ) (f : ℕ → List ℕ) (j : ℕ) → j ≢ k → update k v f j ≡ f j
+unfolding update
+update-other k v f j n = rw (ne-eqb j k n, update)
+
+-- Block k with another image, and every other block as it was: the blocks have their images again.
+pub imaged-update : (d : Device) (counts spare spare′ : List ℕ) (image : ℕ → List ℕ) (k n : ℕ) (w : List ℕ) → Imaged d counts spare image
+    → k < length counts → Image d spare′ k w → ((j : ℕ) → j ≢ k → Image d spare j (image j) → Image d spare′ j (image j))
+    → length w ≡ n → Asc 0 w → ((x : ℕ) → elem x w ≡ true → x < d .N)
+    → Imaged d (set counts k n) spare′ (update k w image)
+imaged-update d counts spare spare′ image k n w v b i keeps size a below = record {
+  entries = λ j h. entries-of j h (eqb j k) refl;
+  count = λ j h. count-of j h (eqb j k) refl;
+  ascends = λ j h. ascends-of j h (eqb j k) refl;
+  logical = λ j h. logical-of j h (eqb j k) refl;
+}
+  where
+    here : (j : ℕ) → eqb j k ≡ true → update k w image j ≡ w
+    here j e = ap (update k w image) (eqb-true j k e) ∙ update-here k w image
+
+    off : (j : ℕ) → eqb j k ≡ false → update k w image j ≡ image j
+    off j e = update-other k w image j (eqb-false j k e)
+
+    entries-of : (j : ℕ) → j < d .M → (t : Bool) → eqb j k ≡ t → Image d spare′ j (update k w image j)
+    entries-of j h true e = subst (λ (l : List ℕ). Image d spare′ j l) (sym (here j e)) (subst (λ (m : ℕ). Image d spare′ m w) (sym (eqb-true j k e)) i)
+    entries-of j h false e = subst (λ (l : List ℕ). Image d spare′ j l) (sym (off j e)) (keeps j (eqb-false j k e) (v .entries j h))
+
+    count-of : (j : ℕ) → j < d .M → (t : Bool) → eqb j k ≡ t → length (update k w image j) ≡ getD (set counts k n) j 0
+    count-of j h true e =
+        ap (λ (l : List ℕ). length l) (here j e) ∙ size ∙ sym (getD-set-same counts k n 0 b)
+        ∙ ap (λ (m : ℕ). getD (set counts k n) m 0) (sym (eqb-true j k e))
+    count-of j h false e = ap (λ (l : List ℕ). length l) (off j e) ∙ v .count j h ∙ sym (getD-set-other counts k j n 0 (eqb-false j k e))
+
+    ascends-of : (j : ℕ) → j < d .M → (t : Bool) → eqb j k ≡ t → Asc 0 (update k w image j)
+    ascends-of j h true e = rw (here j e) a
+    ascends-of j h false e = rw (off j e) (v .ascends j h)
+
+    logical-of : (j : ℕ) → j < d .M → (t : Bool) → eqb j k ≡ t → (x : ℕ) → elem x (update k w image j) ≡ true → x < d .N
+    logical-of j h true e x m = below x (sym (ap (elem x) (here j e)) ∙ m)
+    logical-of j h false e x m = v .logical j h x (sym (ap (elem x) (off j e)) ∙ m)
+
+-- where x stands on the pages from p on that a list of logical pages is written to, or else where it was
+unfoldable pub spot : ℕ → ℕ → List ℕ → Option ℕ → Option ℕ
+spot x p [] old = old
+spot x p (y ∷ l) old = elim (eqb x y) [ true ↦ some p | false ↦ spot x (suc p) l old ]
+
+-- The two cases of that.
+pub data Spot (x p : ℕ) (w : List ℕ) (old : Option ℕ) : Option ℕ → Type 0 where
+  elsewhere : elem x w ≡ false → Spot x p w old old
+  there : (i : ℕ) → i < length w → getD w i 0 ≡ x → Spot x p w old (some (p + i))
+
+pub spot-view : (x p : ℕ) (w : List ℕ) (old : Option ℕ) → Spot x p w old (spot x p w old)
+unfolding spot
+spot-view x p [] old = elsewhere (is-false (elem x []) (λ h. no-elem x h))
+spot-view x p (y ∷ l) old = go (eqb x y) refl (spot x (suc p) l old) refl (spot-view x (suc p) l old)
+  where
+    miss : eqb x y ≡ false → elem x l ≡ false → (x ≡ y) ⊎ (elem x l ≡ true) → ⊥
+    miss e h (inl q) = eqb-false x y e q
+    miss e h (inr q) = true≢false (sym q ∙ h)
+
+    go : (t : Bool) → eqb x y ≡ t → (v : Option ℕ) → spot x (suc p) l old ≡ v → Spot x (suc p) l old v → Spot x p (y ∷ l) old (spot x p (y ∷ l) old)
+    go true e v q s =
+        let z : p + 0 ≡ p = omega arith in
+        let r : Spot x p (y ∷ l) old (some (p + 0)) = there 0 (omega arith) (sym (eqb-true x y e)) in
+        rw (e, spot) (rw z at r)
+    go false e v q (elsewhere h) = rw (e, spot) (rw q (elsewhere (is-false (elem x (y ∷ l)) (λ k. miss e h (elem-cons x y l k)))))
+    go false e v q (there i b h) =
+        let z : p + suc i ≡ suc p + i = omega arith in
+        let r : Spot x p (y ∷ l) old (some (p + suc i)) = there (suc i) (omega arith) h in
+        rw (e, spot) (rw q (rw z at r))

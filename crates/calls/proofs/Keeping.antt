@@ -1,0 +1,164 @@
+-- A format gives the invariant; a compaction keeps it, and so does erasing a block on which nothing lies. Assumes nothing.
+use mathlib.Core.Path.{_≡_, refl, sym, _∙_, ap}
+use mathlib.Core.List.{List, [], flatten}
+use mathlib.Core.Option.{Option, none, some}
+use mathlib.Core.Logic.{_≢_}
+use mathlib.Core.Bool.{Bool, true, false}
+use Prim.Native.Nat.{ℕ, zero, suc, _≤_, _<_}
+use native.Mathlib.Omega.{arith}
+use lib.Dec.{leb, ltb, eqb}
+use lib.ListN.{length, getD, set, replicate, length-set, length-replicate, getD-replicate, List·getD-eq-default}
+use lib.Seq.{getD-set-same, getD-set-other, set-out}
+use borrow.Author.Tests.{le-leb, ltb-true, ltb-false, eqb-true, eqb-false}
+use Rattle.model.specs.Lists.{all}
+use Rattle.model.specs.Device.{Device, withinLimits, offsetOf, groupOf, groupCount, spareLength, stateLength}
+use Rattle.model.specs.Spare.{nobody, erase}
+use Rattle.model.specs.Levels.{Group, listing, compact}
+use Rattle.model.specs.State.{State, withCounts, withGroups, groupAt}
+use Rattle.model.specs.Sound.{soundState, soundGroups}
+use Rattle.model.proofs.Bools.{and-l, and-r, and-i, all-cons}
+use Rattle.model.proofs.Lists.{end, no-elem}
+use Rattle.model.proofs.SpareArea.{length-erase}
+use Rattle.model.proofs.Image.{erase-image, erase-keeps, blank-image}
+use Rattle.model.proofs.Line.{met}
+use Rattle.model.proofs.Compaction.{compact-met}
+use Rattle.model.proofs.SoundGroup.{sound-levels, compact-sound}
+use Rattle.model.proofs.SoundGroups.{replicate-sound, group-sound, set-sound}
+use Rattle.calls.specs.Outcome.{Lent}
+use Rattle.calls.specs.Format.{blankState}
+use Rattle.calls.specs.Compaction.{compactGroup}
+use Rattle.calls.proofs.Invariant.{Lies, Inv, update, update-other, imaged-update}
+use Rattle.calls.proofs.Writing.{counts-set}
+
+-- reading a list of equal elements gives that element, beyond its end too
+replicate-at : {A : Type 0} (n i : ℕ) (a : A) → getD (replicate n a) i a ≡ a
+replicate-at n i a = go (ltb i n) refl
+  where
+    go : (t : Bool) → ltb i n ≡ t → getD (replicate n a) i a ≡ a
+    go true e = getD-replicate n i a a (ltb-true i n e)
+    go false e =
+        let h : n ≤ i = ltb-false i n e in
+        List·getD-eq-default (replicate n a) a (rw length-replicate h)
+
+zeros-within : (b n : ℕ) → all (λ c. leb c b) (replicate n 0) ≡ true
+unfolding all
+zeros-within b zero = refl
+zeros-within b (suc n) = all-cons (λ c. leb c b) 0 (replicate n 0) (le-leb 0 b (omega arith)) (zeros-within b n)
+
+-- After a format nothing lies anywhere.
+pub format-inv : (d : Device) (x : Lent) → withinLimits d ≡ true → x .state .bytes ≡ stateLength d → Inv (blankState d x) (replicate (spareLength d) nobody) (λ k. []) (λ y. none)
+unfolding blankState soundState groupAt met flatten
+format-inv d x h e = record {
+  limits = h;
+  bytes = e;
+  counted = length-replicate (d .M) 0;
+  grouped = length-replicate (groupCount d) [];
+  spared = length-replicate (spareLength d) nobody;
+  sound = and-i _ _ (replicate-sound (d .N) 0 (groupCount d)) (zeros-within (d .B) (d .M));
+  imaged = record {
+    entries = λ k l. blank-image d k l;
+    count = λ k l. sym (replicate-at (d .M) k 0);
+    ascends = λ k l. end;
+    logical = λ k l y m. no-elem y m;
+  };
+  placed = λ y p l q. let z : _≡_ {A = ℕ} 0 1 = cc in absurd (omega arith);
+  unplaced = λ y l q. ap (λ (g : Group). met (offsetOf y) (listing g)) (replicate-at {A = Group} (groupCount d) (groupOf y) []);
+}
+
+module _ (s : State) (spare : List ℕ) (image : ℕ → List ℕ) (place : ℕ → Option ℕ) (v : Inv s spare image place) where
+  groups-sound : soundGroups (s .device .N) 0 (s .groups) ≡ true
+  unfolding soundState
+  groups-sound = and-l _ _ (v .sound)
+
+  counts-within : all (λ c. leb c (s .device .B)) (s .counts) ≡ true
+  unfolding soundState
+  counts-within = and-r (soundGroups (s .device .N) 0 (s .groups)) _ (v .sound)
+
+  -- what is met is the same after a compaction
+  met-compacted : (k o j : ℕ) → o < 256 → met o (listing (groupAt (compactGroup k s) j)) ≡ met o (listing (groupAt s j))
+  unfolding groupAt compactGroup withGroups
+  met-compacted k o j h = go (eqb j k) (ltb k (length (s .groups))) refl refl
+    where
+      new : Group
+      new = compact (getD (s .groups) k [])
+
+      go : (t u : Bool) → eqb j k ≡ t → ltb k (length (s .groups)) ≡ u → met o (listing (getD (set (s .groups) k new) j [])) ≡ met o (listing (getD (s .groups) j []))
+      go false u e f = ap (λ (g : Group). met o (listing g)) (getD-set-other (s .groups) k j new [] (eqb-false j k e))
+      go true false e f = ap (λ (gs : List Group). met o (listing (getD gs j []))) (set-out (s .groups) k new (ltb-false k _ f))
+      go true true e f =
+          ap (λ (i : ℕ). met o (listing (getD (set (s .groups) k new) i []))) (eqb-true j k e)
+          ∙ ap (λ (g : Group). met o (listing g)) (getD-set-same (s .groups) k new [] (ltb-true k _ f))
+          ∙ compact-met o h (getD (s .groups) k []) (sound-levels (s .device .N) k _ (group-sound (s .device .N) k (s .groups) groups-sound))
+          ∙ ap (λ (i : ℕ). met o (listing (getD (s .groups) i []))) (sym (eqb-true j k e))
+
+  -- A compaction keeps the invariant.
+  pub compact-inv : (k : ℕ) → Inv (compactGroup k s) spare image place
+  unfolding compactGroup withGroups soundState groupAt
+  compact-inv k = record {
+    limits = v .limits;
+    bytes = v .bytes;
+    counted = v .counted;
+    grouped = length-set (s .groups) k _ ∙ v .grouped;
+    spared = v .spared;
+    sound = and-i _ _ (set-sound (s .device .N) k (s .groups) _ groups-sound (compact-sound (s .device .N) k _ (group-sound (s .device .N) k (s .groups) groups-sound))) counts-within;
+    imaged = v .imaged;
+    placed = λ x p h e. lies x p (v .placed x p h e);
+    unplaced = λ x h e. met-compacted k (offsetOf x) (groupOf x) (omega arith) ∙ v .unplaced x h e;
+  }
+    where
+      lies : (x p : ℕ) → Lies s image x p → Lies (compactGroup k s) image x p
+      lies x p l = record {
+        block = l .block;
+        slot = l .slot;
+        near = l .near;
+        line = l .line;
+        inside = l .inside;
+        page = l .page;
+        written = l .written;
+        carries = l .carries;
+        isMet = met-compacted k (offsetOf x) (groupOf x) (omega arith) ∙ l .isMet;
+        predicts = l .predicts;
+        nearWritten = l .nearWritten;
+        above = l .above;
+        below = l .below;
+      }
+
+  -- Erasing a block on which no logical page lies keeps the invariant.
+  pub erase-inv : (k : ℕ) → k < s .device .M → ((x p : ℕ) (h : x < s .device .N) (e : place x ≡ some p) → v .placed x p h e .block ≢ k)
+      → Inv (withCounts (set (s .counts) k 0) s) (erase (s .device) k spare) (update k [] image) place
+  unfolding withCounts soundState groupAt
+  erase-inv k b n = record {
+    limits = v .limits;
+    bytes = v .bytes;
+    counted = length-set (s .counts) k 0 ∙ v .counted;
+    grouped = v .grouped;
+    spared = length-erase (s .device) k spare ∙ v .spared;
+    sound = and-i _ _ groups-sound (counts-set (s .device .B) (s .counts) k 0 (omega arith) counts-within);
+    imaged = imaged-update (s .device) (s .counts) spare (erase (s .device) k spare) image k 0 [] (v .imaged)
+        (omega (arith, v .counted, b)) (erase-image (s .device) k spare b (v .spared))
+        (λ j o i. erase-keeps (s .device) k j spare (image j) o i) refl end (λ x m. no-elem x m);
+    placed = λ x p h e. lies x p (v .placed x p h e) (n x p h e);
+    unplaced = v .unplaced;
+  }
+    where
+      image′ : ℕ → List ℕ
+      image′ = update k [] image
+
+      lies : (x p : ℕ) (l : Lies s image x p) → l .block ≢ k → Lies (withCounts (set (s .counts) k 0) s) image′ x p
+      lies x p l o =
+          let same : image′ (l .block) ≡ image (l .block) = update-other k [] image (l .block) o in
+          record {
+            block = l .block;
+            slot = l .slot;
+            near = l .near;
+            line = l .line;
+            inside = l .inside;
+            page = l .page;
+            written = rw same (l .written);
+            carries = rw same (l .carries);
+            isMet = l .isMet;
+            predicts = l .predicts;
+            nearWritten = rw same (l .nearWritten);
+            above = l .above;
+            below = l .below;
+          }
