@@ -1,0 +1,127 @@
+-- Stores element by element, and through a part of the list: by induction on the list. Assumes nothing.
+use mathlib.Core.Path.{_≡_, refl, sym, ap, _∙_}
+use mathlib.Core.List.{List, [], _∷_, _++_}
+use Prim.Native.Nat.{ℕ, zero, suc, _+_, _≤_}
+use native.Mathlib.Omega.{arith}
+use lib.ListN.{length, set, take, drop, length-drop}
+use lib.Seq.{length-take-le, drop-drop}
+use Rattle.model.specs.Lists.{store}
+use Rattle.model.proofs.Lists.{length-store}
+
+module _ {A : Type 0} where
+  -- nothing stored changes nothing
+  pub store-nil : (s : List A) (p : ℕ) → store s p [] ≡ s
+  unfolding store
+  store-nil [] p = refl
+  store-nil (x ∷ s) zero = refl
+  store-nil (x ∷ s) (suc p) = ap (λ (l : List A). x ∷ l) (store-nil s p)
+
+  -- the first element, then the others
+  pub store-first : (s : List A) (p : ℕ) (v : A) (vs : List A) → store s p (v ∷ vs) ≡ store (set s p v) (suc p) vs
+  unfolding store
+  store-first [] p v vs = refl
+  store-first (x ∷ s) zero v vs = refl
+  store-first (x ∷ s) (suc p) v vs = ap (λ (l : List A). x ∷ l) (store-first s p v vs)
+
+  -- the last element, then the others
+  pub store-last : (s : List A) (p : ℕ) (vs : List A) (v : A) → store s p (vs ++ (v ∷ [])) ≡ store (set s (p + length vs) v) p vs
+  unfolding store
+  store-last [] p vs v = refl
+  store-last (x ∷ s) zero [] v = ap (λ (l : List A). v ∷ l) (store-nil s 0)
+  store-last (x ∷ s) zero (u ∷ vs) v =
+      let e : 0 + suc (length vs) ≡ suc (0 + length vs) = omega arith in
+      rw e (ap (λ (l : List A). u ∷ l) (store-last s zero vs v))
+  store-last (x ∷ s) (suc p) vs v =
+      let e : suc p + length vs ≡ suc (p + length vs) = omega arith in
+      rw e (ap (λ (l : List A). x ∷ l) (store-last s p vs v))
+
+  -- a store of one element
+  pub store-one : (s : List A) (p : ℕ) (v : A) → set s p v ≡ store s p (v ∷ [])
+  store-one s p v = sym (store-first s p v [] ∙ store-nil (set s p v) (suc p))
+
+  -- a store over the whole list
+  pub store-all : (s vs : List A) → length vs ≡ length s → store s 0 vs ≡ vs
+  unfolding store
+  store-all [] [] h = refl
+  store-all [] (v ∷ vs) h = absurd (let z : ⊥ = omega arith in z)
+  store-all (x ∷ s) [] h = absurd (let z : ⊥ = omega arith in z)
+  store-all (x ∷ s) (v ∷ vs) h = ap (λ (l : List A). v ∷ l) (store-all s vs (omega arith))
+
+  -- one store, and another behind it
+  pub store-then : (s : List A) (p : ℕ) (vs us : List A) → store (store s p vs) (p + length vs) us ≡ store s p (vs ++ us)
+  unfolding store
+  store-then [] p vs us = refl
+  store-then (x ∷ s) zero [] us = refl
+  store-then (x ∷ s) zero (v ∷ vs) us =
+      let e : 0 + suc (length vs) ≡ suc (0 + length vs) = omega arith in
+      rw e (ap (λ (l : List A). v ∷ l) (store-then s zero vs us))
+  store-then (x ∷ s) (suc p) vs us =
+      let e : suc p + length vs ≡ suc (p + length vs) = omega arith in
+      rw e (ap (λ (l : List A). x ∷ l) (store-then s p vs us))
+
+  -- the first n elements after a store
+  pub take-store : (n : ℕ) (s : List A) (p : ℕ) (vs : List A) → take n (store s p vs) ≡ store (take n s) p vs
+  unfolding store
+  take-store zero s p vs = refl
+  take-store (suc n) [] p vs = refl
+  take-store (suc n) (x ∷ s) zero [] = refl
+  take-store (suc n) (x ∷ s) zero (v ∷ vs) = ap (λ (l : List A). v ∷ l) (take-store n s zero vs)
+  take-store (suc n) (x ∷ s) (suc p) vs = ap (λ (l : List A). x ∷ l) (take-store n s p vs)
+
+  -- what stands from place a on after a store there
+  pub drop-store : (a : ℕ) (s : List A) (p : ℕ) (vs : List A) → drop a (store s (a + p) vs) ≡ store (drop a s) p vs
+  unfolding store
+  drop-store zero s p vs = let e : 0 + p ≡ p = omega arith in rw e
+  drop-store (suc a) [] p vs = refl
+  drop-store (suc a) (x ∷ s) p vs = let e : suc a + p ≡ suc (a + p) = omega arith in rw e (drop-store a s p vs)
+
+  -- a store in a part, seen in the part
+  pub part-store : (n a : ℕ) (s : List A) (p : ℕ) (vs : List A) → take n (drop a (store s (a + p) vs)) ≡ store (take n (drop a s)) p vs
+  part-store n a s p vs = ap (λ (l : List A). take n l) (drop-store a s p vs) ∙ take-store n (drop a s) p vs
+
+  store-front : (n : ℕ) (s : List A) (p : ℕ) (vs : List A) → p + length vs ≤ n → store s 0 (store (take n s) p vs) ≡ store s p vs
+  unfolding store
+  store-front n [] p vs h = refl
+  store-front zero (x ∷ s) zero [] h = refl
+  store-front zero (x ∷ s) zero (v ∷ vs) h = absurd (omega arith)
+  store-front zero (x ∷ s) (suc p) vs h = absurd (omega arith)
+  store-front (suc n) (x ∷ s) zero [] h =
+      ap (λ (l : List A). x ∷ store s 0 l) (sym (store-nil (take n s) 0)) ∙ ap (λ (l : List A). x ∷ l) (store-front n s 0 [] (omega arith) ∙ store-nil s 0)
+  store-front (suc n) (x ∷ s) zero (v ∷ vs) h = ap (λ (l : List A). v ∷ l) (store-front n s 0 vs (omega arith))
+  store-front (suc n) (x ∷ s) (suc p) vs h = ap (λ (l : List A). x ∷ l) (store-front n s p vs (omega arith))
+
+  -- a part stored back after a store in it: a store in the whole
+  pub store-part : (n a : ℕ) (s : List A) (p : ℕ) (vs : List A) → p + length vs ≤ n → store s a (store (take n (drop a s)) p vs) ≡ store s (a + p) vs
+  unfolding store
+  store-part n zero s p vs h = let e : 0 + p ≡ p = omega arith in rw e (store-front n s p vs h)
+  store-part n (suc a) [] p vs h = refl
+  store-part n (suc a) (x ∷ s) p vs h =
+      let e : suc a + p ≡ suc (a + p) = omega arith in
+      rw e (ap (λ (l : List A). x ∷ l) (store-part n a s p vs h))
+
+  -- a part replaced by t: t stored
+  pub replaced : (a : ℕ) (s t : List A) → a + length t ≤ length s → take a s ++ (t ++ drop (a + length t) s) ≡ store s a t
+  unfolding store
+  replaced zero s [] h = sym (store-nil s 0)
+  replaced zero [] (v ∷ t) h = absurd (omega arith)
+  replaced zero (x ∷ s) (v ∷ t) h =
+      let e : 0 + suc (length t) ≡ suc (0 + length t) = omega arith in
+      rw e (ap (λ (l : List A). v ∷ l) (replaced zero s t (omega arith)))
+  replaced (suc a) [] t h = absurd (omega arith)
+  replaced (suc a) (x ∷ s) t h =
+      let e : suc a + length t ≡ suc (a + length t) = omega arith in
+      rw e (ap (λ (l : List A). x ∷ l) (replaced a s t (omega arith)))
+
+  -- the same for a part of n that was lent, in the words of the loan
+  pub lent-back : (n a : ℕ) (s t : List A) → length t ≡ n → a + n ≤ length s → take a s ++ (t ++ drop n (drop a s)) ≡ store s a t
+  lent-back n a s t e h =
+      let d : drop n (drop a s) ≡ drop (a + length t) s = rw e (drop-drop n a s) in
+      rw d (replaced a s t (omega arith))
+
+  -- a store in a part that was lent: a store in the whole
+  pub lent-store : (n a : ℕ) (s t : List A) (p : ℕ) (vs : List A) → t ≡ store (take n (drop a s)) p vs → p + length vs ≤ n → a + n ≤ length s
+      → take a s ++ (t ++ drop n (drop a s)) ≡ store s (a + p) vs
+  lent-store n a s t p vs e h k =
+      let part : length (take n (drop a s)) ≡ n = length-take-le n (drop a s) (rw (length-drop a s) (omega arith)) in
+      let long : length t ≡ n = rw e (length-store (take n (drop a s)) p vs ∙ part) in
+      lent-back n a s t long k ∙ rw e (store-part n a s p vs h)

@@ -1,0 +1,37 @@
+-- Bytes that move inside a list, and a packed array of slots of one width in it. Assumes nothing.
+use Prim.Native.Nat.{ℕ, zero, suc, _+_, _-_, _*_}
+use mathlib.Core.List.{List, [], _∷_}
+use lib.ListN.{take, drop}
+use Rattle.model.specs.Lists.{store}
+
+-- the list with its bytes at places from to before `to` stored w places above
+unfoldable pub movedUp : List ℕ → ℕ → ℕ → ℕ → List ℕ
+unfolding store
+movedUp s from to w = store s (from + w) (take (to - from) (drop from s))
+
+-- the list with, at places from to before `to`, the bytes that stand w places above
+unfoldable pub movedDown : List ℕ → ℕ → ℕ → ℕ → List ℕ
+unfolding store
+movedDown s from to w = store s from (take (to - from) (drop (from + w) s))
+
+-- the bytes of slot i, of slots of `width` bytes that stand one after the other from place base on
+unfoldable pub slotAt : ℕ → ℕ → List ℕ → ℕ → List ℕ
+slotAt width base s i = take width (drop (base + i * width) s)
+
+-- the first n slots
+unfoldable pub slots : ℕ → ℕ → ℕ → List ℕ → List (List ℕ)
+unfolding slotAt
+slots width base zero s = []
+slots width base (suc n) s = slotAt width base s 0 ∷ slots width (base + width) n s
+
+-- the list with v before its element i, or at its end
+unfoldable pub insertAt : {A : Type 0} → ℕ → A → List A → List A
+insertAt zero v l = v ∷ l
+insertAt (suc i) v [] = v ∷ []
+insertAt (suc i) v (x ∷ l) = x ∷ insertAt i v l
+
+-- the list without its element i
+unfoldable pub removeAt : {A : Type 0} → ℕ → List A → List A
+removeAt i [] = []
+removeAt zero (x ∷ l) = l
+removeAt (suc i) (x ∷ l) = x ∷ removeAt i l

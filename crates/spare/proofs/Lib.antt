@@ -1,0 +1,4 @@
+pub mod Sizes
+pub mod Stores
+pub mod Programming
+pub mod Naming

@@ -1,0 +1,56 @@
+-- Each turn sets one place, and a store of many is the first set and a store of the rest.
+use native.Mathlib.Omega.{arith}
+use mathlib.Core.Path.{_≡_, refl, sym, _∙_}
+use Prim.Native.Nat.{_-_, _≤_}
+use lib.ListN.{length, length-set, replicate}
+use Rattle.model.specs.Lists.{store}
+use Rattle.model.specs.Spare.{nobody}
+use Rattle.spare.proofs.Stores.{fill-turn, fill-end}
+use Rattle.spare.proofs.blank.Statement.{statement}
+use Rattle.spare.proofs.blank.Tie as tie
+
+-- what the whole fill gives is what filling the rest gives from here
+abbrev Inv-loop : tie.InvT-loop
+Inv-loop spare₀ a e i₀ spare i = (a ≤ i) × (i ≤ e) × (length spare ≡ length spare₀) × (store spare₀ a (replicate (e - a) nobody) ≡ store spare i (replicate (e - i) nobody))
+
+abbrev μ-loop : tie.MeasureT-loop
+μ-loop spare₀ a e i₀ spare i = e - i
+
+loop-holds : tie.Need-loop-holds Inv-loop μ-loop
+loop-holds c = (omega arith, omega arith, refl, refl)
+
+mul-spare : tie.Need-mul-spare Inv-loop μ-loop
+mul-spare c = omega arith
+
+slice-write-spare : tie.Need-slice-write-spare Inv-loop μ-loop
+slice-write-spare c = omega arith
+
+add-i : tie.Need-add-i Inv-loop μ-loop
+add-i c = omega arith
+
+loop-less : tie.Need-loop-less Inv-loop μ-loop
+loop-less c = omega arith
+
+loop-again : tie.Need-loop-again Inv-loop μ-loop
+loop-again c = (omega arith, omega arith, simp length-set (omega arith), c .before .loop .inv .3 ∙ fill-turn _ _ _ _ (c .loop-test .taken))
+
+same-length : tie.Need-same-length Inv-loop μ-loop
+same-length c = omega arith
+
+returns : tie.Need-returns Inv-loop μ-loop
+returns c = sym (c .before .loop .inv .3 ∙ fill-end _ _ _ _ (c .loop-test .left))
+
+pub blank-spec : {M : Type 1} → statement M
+blank-spec =
+    tie.close
+    (tie.spec
+    Inv-loop
+    μ-loop
+    loop-holds
+    mul-spare
+    slice-write-spare
+    add-i
+    loop-less
+    loop-again
+    same-length
+    returns)

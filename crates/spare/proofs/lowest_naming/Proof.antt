@@ -1,0 +1,67 @@
+-- Each turn that doesn't return leaves the search of the entries from the next on, which is the model's recursion.
+use native.Mathlib.Omega.{arith}
+use mathlib.Core.Path.{_≡_, sym, _∙_}
+use Prim.Native.Nat.{_-_, _≤_}
+use Rattle.model.specs.Device.{entriesPerPage}
+use Rattle.model.specs.Spare.{lowestNaming}
+use Rattle.spare.specs.Read.{numbersOf, namedOf}
+use Rattle.spare.proofs.Sizes.{sizes}
+use Rattle.spare.proofs.Naming.{names-from, lowest-start, lowest-hit, lowest-miss, lowest-end}
+use Rattle.spare.proofs.lowest_naming.Statement.{statement}
+use Rattle.spare.proofs.lowest_naming.Tie as tie
+
+-- what the whole search finds is what the search from entry j on finds
+abbrev Inv-loop : tie.InvT-loop
+Inv-loop spare d p x g n j₀ j = (j ≤ n) × (lowestNaming (numbersOf d) spare p x 0 (entriesPerPage (numbersOf d)) ≡ lowestNaming (numbersOf d) spare p x j (n - j))
+
+abbrev μ-loop : tie.MeasureT-loop
+μ-loop spare d p x g n j₀ j = n - j
+
+entries-per-page-requires : tie.Need-entries-per-page-requires Inv-loop μ-loop
+entries-per-page-requires c κs = c .before .pre .0
+
+loop-holds : tie.Need-loop-holds Inv-loop μ-loop
+loop-holds c = (omega arith, lowest-start _ _ _ _ _ (c .entries-per-page .ensures))
+
+names-requires : tie.Need-names-requires Inv-loop μ-loop
+names-requires c κs = let s = c .before .before .before .before .pre in (s .0, s .1, s .2, omega (arith, c .before .before .entries-per-page .ensures))
+
+add-q : tie.Need-add-q Inv-loop μ-loop
+add-q c = let s = c .before .before .before .before .before .before .pre in omega (arith, s .2, sizes _ (s .0), c .before .before .before .before .entries-per-page .ensures)
+
+sub-q : tie.Need-sub-q Inv-loop μ-loop
+sub-q c = names-from _ _ _ _ _ (sym (c .before .names .ensures) ∙ c .if1 .taken)
+
+returns : tie.Need-returns Inv-loop μ-loop
+unfolding namedOf
+returns c = sym (c .before .before .before .loop .inv .1 ∙ lowest-hit _ _ _ _ _ _ _ (c .before .names .ensures) (c .before .before .loop-test .taken) (c .if1 .taken))
+
+add-j : tie.Need-add-j Inv-loop μ-loop
+add-j c = omega arith
+
+loop-less : tie.Need-loop-less Inv-loop μ-loop
+loop-less c = omega arith
+
+loop-again : tie.Need-loop-again Inv-loop μ-loop
+loop-again c = (omega arith, c .before .before .before .loop .inv .1 ∙ lowest-miss _ _ _ _ _ _ _ (c .before .names .ensures) (c .before .before .loop-test .taken) (c .if1 .left))
+
+returns-2 : tie.Need-returns-2 Inv-loop μ-loop
+unfolding namedOf
+returns-2 c = sym (c .before .loop .inv .1 ∙ lowest-end _ _ _ _ _ _ (c .loop-test .left))
+
+pub lowest-naming-spec : {M : Type 1} → statement M
+lowest-naming-spec =
+    tie.close
+    (tie.spec
+    Inv-loop
+    μ-loop
+    entries-per-page-requires
+    loop-holds
+    names-requires
+    add-q
+    sub-q
+    returns
+    add-j
+    loop-less
+    loop-again
+    returns-2)
