@@ -1,0 +1,9 @@
+pub mod Reading
+pub mod Words
+pub mod Members
+pub mod Pages
+pub mod Strides
+pub mod Scans
+pub mod Ends
+pub mod Masks
+pub mod Coding

@@ -1,0 +1,35 @@
+-- `predict` meets its contract: the intercept is read back from its bits, and its sum with the rise has 64 bits.
+use mathlib.Core.Path.{_∙_, ap}
+use native.Mathlib.Omega.{arith}
+use Prim.Native.Nat.{ℕ}
+use lib.IntN.{pos, _+ℤ_}
+use mir.Syntax.{w32}
+use mir.Val.{SFits}
+use Rattle.model.specs.Record.{predict}
+use Rattle.record.proofs.Pages.{wide, sum-fits, sum-is}
+use borrow.Author.Needs.{needs}
+use Rattle.record.proofs.Record.predict.Statement.{statement}
+use Rattle.record.proofs.Record.predict.Tie as tie
+
+-- the intercept has 32 bits
+fits : (c : tie.After-struct-told) → SFits w32 (c .before .before .before .args .self .intercept)
+fits c = record { sfits = c .struct-told .given .1 .1 .1 .0 .1 }
+
+rise-requires : tie.Need-rise-requires
+rise-requires c κs = search needs
+
+cast-result : tie.Need-cast-result
+cast-result c = wide _ (fits c)
+
+cast-result-2 : tie.Need-cast-result-2
+cast-result-2 c = search needs
+
+add-result : tie.Need-add-result
+add-result c = sum-fits _ (c .before .before .rise .result) (fits c) (omega arith)
+
+returns : tie.Need-returns
+unfolding predict
+returns c = λ L. sum-is _ (c .before .before .rise .result) (fits c) (omega arith) ∙ ap (λ (n : ℕ). c .before .before .before .args .self .intercept +ℤ pos n) (c .before .before .rise .ensures L)
+
+pub predict-spec : {M : Type 1} → statement M
+predict-spec = tie.close (tie.spec rise-requires cast-result cast-result-2 add-result returns)

@@ -1,0 +1,40 @@
+-- `rise` meets its contract: one law for each kind; a slope's product fits, being at most 256 × 255.
+use native.Mathlib.Omega.{arith}
+use Prim.Native.Nat.{_/_, _≤_}
+use Rattle.record.proofs.Pages.{rise-single, rise-strided, rise-sloped, slope-small}
+use borrow.Author.Needs.{needs}
+use Rattle.record.proofs.Record.rise.Statement.{statement}
+use Rattle.record.proofs.Record.rise.Tie as tie
+
+returns : tie.Need-returns
+returns c = λ L. rise-single _ _ (c .if1 .taken)
+
+sub-result : tie.Need-sub-result
+sub-result c = search needs
+
+add-result : tie.Need-add-result
+add-result c = search needs
+
+div-result : tie.Need-div-result
+div-result c = search needs
+
+returns-2 : tie.Need-returns-2
+returns-2 c = λ L. rise-strided _ _ (c .before .if1 .left) (c .if2 .taken)
+
+mul-result : tie.Need-mul-result
+mul-result c =
+    let h : c .before .before .args .self .word / 2 ≤ 256 = omega arith in
+    omega (arith, slope-small _ _ h (c .before .before .pre .1))
+
+add-result-2 : tie.Need-add-result-2
+add-result-2 c =
+    let h : c .before .before .args .self .word / 2 ≤ 256 = omega arith in
+    omega (arith, slope-small _ _ h (c .before .before .pre .1))
+
+returns-3 : tie.Need-returns-3
+returns-3 c = λ L. rise-sloped _ _ (c .if2 .left)
+
+pub rise-spec : {M : Type 1} → statement M
+rise-spec =
+    tie.close
+    (tie.spec returns sub-result add-result div-result returns-2 mul-result add-result-2 returns-3)

@@ -1,0 +1,49 @@
+-- `first` meets its contract: at each turn those before o fail the test.
+use native.Mathlib.Omega.{arith}
+use Prim.Native.Nat.{_+_, _-_}
+use mathlib.Core.Path.{sym, _∙_}
+use Rattle.record.specs.Scan.{stays, Failed}
+use Rattle.record.proofs.Scans.{up-start, up-step}
+use Rattle.record.proofs.first.Statement.{statement}
+use Rattle.record.proofs.first.Tie as tie
+
+abbrev Inv-loop : tie.InvT-loop
+Inv-loop mask kept s d e o₀ o = Failed (stays kept mask) s d o
+
+abbrev μ-loop : tie.MeasureT-loop
+μ-loop mask kept s d e o₀ o = e + 1 - o
+
+loop-holds : tie.Need-loop-holds Inv-loop μ-loop
+loop-holds c = up-start _ _ _
+
+staying-requires : tie.Need-staying-requires Inv-loop μ-loop
+staying-requires c κs = (c .before .before .before .pre .0, omega arith)
+
+returns : tie.Need-returns Inv-loop μ-loop
+returns c = (c .before .before .before .loop .inv, λ h. sym (c .before .staying .ensures) ∙ c .if1 .taken)
+
+add-o : tie.Need-add-o Inv-loop μ-loop
+add-o c = omega arith
+
+loop-less : tie.Need-loop-less Inv-loop μ-loop
+loop-less c = omega arith
+
+loop-again : tie.Need-loop-again Inv-loop μ-loop
+loop-again c = up-step _ _ _ _ (c .before .before .before .loop .inv) (sym (c .before .staying .ensures) ∙ c .if1 .left)
+
+returns-2 : tie.Need-returns-2 Inv-loop μ-loop
+returns-2 c = (c .before .loop .inv, λ h. absurd (let z : ⊥ = omega arith in z))
+
+pub first-spec : {M : Type 1} → statement M
+first-spec =
+    tie.close
+    (tie.spec
+    Inv-loop
+    μ-loop
+    loop-holds
+    staying-requires
+    returns
+    add-o
+    loop-less
+    loop-again
+    returns-2)

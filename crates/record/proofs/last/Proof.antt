@@ -1,0 +1,50 @@
+-- `last` meets its contract: at each turn those after o fail the test; f passes it.
+use native.Mathlib.Omega.{arith}
+use mathlib.Core.Path.{_≡_, sym, ap, _∙_}
+use Rattle.record.specs.Scan.{stays, FailedAfter}
+use Rattle.record.proofs.Scans.{down-start, down-room, down-step}
+use Rattle.record.proofs.last.Statement.{statement}
+use Rattle.record.proofs.last.Tie as tie
+
+abbrev Inv-loop : tie.InvT-loop
+Inv-loop mask kept f d e o₀ o = FailedAfter (stays kept mask) f d e o
+
+abbrev μ-loop : tie.MeasureT-loop
+μ-loop mask kept f d e o₀ o = o
+
+loop-holds : tie.Need-loop-holds Inv-loop μ-loop
+loop-holds c = down-start _ _ _ _ (c .before .pre .2) (c .before .pre .4)
+
+staying-requires : tie.Need-staying-requires Inv-loop μ-loop
+staying-requires c κs = (c .before .before .before .pre .0, omega arith)
+
+returns : tie.Need-returns Inv-loop μ-loop
+returns c = (c .before .before .before .loop .inv, sym (c .before .staying .ensures) ∙ c .if1 .taken)
+
+sub-o : tie.Need-sub-o Inv-loop μ-loop
+sub-o c = omega (arith, down-room _ _ _ _ _ (c .before .before .before .before .before .pre .1) (c .before .before .loop-test .taken) (c .before .before .before .loop .inv))
+
+loop-less : tie.Need-loop-less Inv-loop μ-loop
+loop-less c = omega arith
+
+loop-again : tie.Need-loop-again Inv-loop μ-loop
+loop-again c = down-step _ _ _ _ _ (c .before .before .before .before .before .pre .1) (c .before .before .loop-test .taken) (c .before .before .before .loop .inv) (sym (c .before .staying .ensures) ∙ c .if1 .left)
+
+returns-2 : tie.Need-returns-2 Inv-loop μ-loop
+returns-2 c =
+    let e : c .before .loop .o ≡ c .before .before .before .args .f = omega (arith, c .before .loop .inv .low) in
+    (c .before .loop .inv, ap (stays _ _) e ∙ c .before .before .before .pre .5)
+
+pub last-spec : {M : Type 1} → statement M
+last-spec =
+    tie.close
+    (tie.spec
+    Inv-loop
+    μ-loop
+    loop-holds
+    staying-requires
+    returns
+    sub-o
+    loop-less
+    loop-again
+    returns-2)
