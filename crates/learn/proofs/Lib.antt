@@ -1,0 +1,13 @@
+pub mod Differences
+pub mod AheadOf
+pub mod Ascent
+pub mod Strides
+pub mod AccurateAt
+pub mod Fits
+pub mod Reaching
+pub mod Searching
+pub mod Bettering
+pub mod Choosing
+pub mod RunHeld
+pub mod Storing
+pub mod RunsReadBack

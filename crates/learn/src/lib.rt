@@ -1,0 +1,2 @@
+// Learning: the records of a sorted batch.
+pub mod runs;
