@@ -1,0 +1,111 @@
+-- `slots_pass` meets its contract: the pass over all slots is the pass over those from slot i on, with the table so far.
+use borrow.Author.Tests.{not-true, not-false}
+use mathlib.Core.Path.{_≡_, sym, ap, _∙_}
+use mathlib.Core.Bool.{true≢false}
+use Prim.Native.Nat.{_-_, _≤_}
+use native.Mathlib.Omega.{arith}
+use lib.ListN.{length}
+use borrow.Author.Needs.{needs}
+use Rattle.group.specs.Layout.{slotsFrom, slotsOf, ownerOf}
+use Rattle.group.specs.Checking.{table, slotsPass}
+use Rattle.group.proofs.Slots.{slots-all}
+use Rattle.group.proofs.Turns.{slot-fails, slot-holds, slot-noted, slots-done}
+use Rattle.group.proofs.slots_pass.Statement.{statement}
+use Rattle.group.proofs.slots_pass.Tie as tie
+
+abbrev Inv-loop : tie.InvT-loop
+Inv-loop b ends₀ n k m levels₀ from₀ i₀ ends levels from i =
+    (i ≤ m) × (m ≤ 512) × (length ends ≡ 256)
+    × (slotsPass n k (ownerOf b) 0 0 ends₀ (slotsOf b) ≡ slotsPass n k (ownerOf b) levels from ends (slotsFrom b i (m - i)))
+    × (table ends₀ (slotsOf b) ≡ table ends (slotsFrom b i (m - i)))
+
+abbrev μ-loop : tie.MeasureT-loop
+μ-loop b ends₀ n k m levels₀ from₀ i₀ ends levels from i = m - i
+
+used-requires : tie.Need-used-requires Inv-loop μ-loop
+used-requires c κs = search needs
+
+cast-m : tie.Need-cast-m Inv-loop μ-loop
+cast-m c = search needs
+
+loop-holds : tie.Need-loop-holds Inv-loop μ-loop
+loop-holds c =
+    let e = slots-all _ _ (c .used .ensures .0) in
+    (omega arith, omega arith, c .before .before .before .pre .2, ap (slotsPass _ _ _ 0 0 _) e, ap (table _) e)
+
+slot-at-requires : tie.Need-slot-at-requires Inv-loop μ-loop
+slot-at-requires c κs = (c .before .before .before .before .before .pre .0, omega arith)
+
+passes-requires : tie.Need-passes-requires Inv-loop μ-loop
+passes-requires c κs = (c .before .before .before .before .before .before .before .pre .0, c .before .before .before .loop .inv .2, c .before .slot-at .ensures .1, c .before .slot-at .ensures .2, c .before .before .before .before .before .before .before .pre .3)
+
+same-length : tie.Need-same-length Inv-loop μ-loop
+same-length c = omega arith
+
+returns : tie.Need-returns Inv-loop μ-loop
+returns c = (
+  sym (c .before .before .before .before .before .loop .inv .3 ∙ slot-fails _ _ _ _ _ _ _ _ (c .before .before .before .before .loop-test .taken) _ (c .before .before .before .slot-at .ensures .0) _ (c .before .passes .ensures .0) (not-true _ (c .if1 .taken))),
+  λ e. absurd (true≢false (sym e)),
+)
+
+note-requires : tie.Need-note-requires Inv-loop μ-loop
+note-requires c κs = (c .before .before .before .before .before .before .before .loop .inv .2, c .before .before .before .passes .ensures .1 (not-false _ (c .before .before .if1 .left)))
+
+add-levels : tie.Need-add-levels Inv-loop μ-loop
+add-levels c = search needs
+
+add-from : tie.Need-add-from Inv-loop μ-loop
+add-from c = search needs
+
+add-from-2 : tie.Need-add-from-2 Inv-loop μ-loop
+add-from-2 c = search needs
+
+add-i : tie.Need-add-i Inv-loop μ-loop
+add-i c = search needs
+
+loop-less : tie.Need-loop-less Inv-loop μ-loop
+loop-less c = omega arith
+
+loop-again : tie.Need-loop-again Inv-loop μ-loop
+loop-again c =
+    let inv = c .before .before .before .before .before .before .before .before .before .before .before .before .loop .inv in
+    let slot = c .before .before .before .before .before .before .before .before .before .before .slot-at .ensures .0 in
+    let test = c .before .before .before .before .before .before .before .before .passes .ensures .0 in
+    let noted = c .before .before .before .before .note .ensures in (
+      omega arith,
+      omega arith,
+      omega (arith, c .before .before .before .before .note .kept .0),
+      inv .3 ∙ slot-holds _ _ _ _ _ _ _ _ (c .before .before .before .before .before .before .before .before .before .before .before .loop-test .taken) _ slot _ test (not-false _ (c .before .before .before .before .before .before .before .if1 .left)) _ noted,
+      inv .4 ∙ slot-noted _ _ _ _ _ _ _ _ (c .before .before .before .before .before .before .before .before .before .before .before .loop-test .taken) _ slot _ test _ noted,
+    )
+
+same-length-2 : tie.Need-same-length-2 Inv-loop μ-loop
+same-length-2 c = omega arith
+
+returns-2 : tie.Need-returns-2 Inv-loop μ-loop
+returns-2 c =
+    let d = slots-done _ _ _ _ _ _ _ _ (c .loop-test .left) in
+    (sym (c .before .loop .inv .3 ∙ d .0), λ e. sym (c .before .loop .inv .4 ∙ d .1))
+
+pub slots-pass-spec : {M : Type 1} → statement M
+slots-pass-spec =
+    tie.close
+    (tie.spec
+    Inv-loop
+    μ-loop
+    used-requires
+    cast-m
+    loop-holds
+    slot-at-requires
+    passes-requires
+    same-length
+    returns
+    note-requires
+    add-levels
+    add-from
+    add-from-2
+    add-i
+    loop-less
+    loop-again
+    same-length-2
+    returns-2)

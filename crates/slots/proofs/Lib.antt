@@ -1,0 +1,9 @@
+pub mod Maps
+pub mod Reading
+pub mod Ten
+pub mod SlotWrites
+pub mod OwnerWrites
+pub mod Behind
+pub mod Owning
+pub mod Passes
+pub mod SlotPass

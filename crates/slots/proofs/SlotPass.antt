@@ -1,0 +1,75 @@
+-- A pass over the used slots that changes them one by one, from slot j on: what is left to change makes the whole change, and
+-- the owners stay. Assumes nothing.
+use mathlib.Core.Path.{_≡_, refl, sym, _∙_}
+use mathlib.Core.List.{List, [], _∷_}
+use mathlib.Core.Bool.{true}
+use Prim.Native.Nat.{ℕ, zero, suc, _+_, _≤_, _<_}
+use native.Mathlib.Omega.{arith}
+use native.Mathlib.Numerals.{add-one}
+use lib.ListN.{length, getD, length-set}
+use lib.Seq.{getD-set-other}
+use borrow.Author.Tests.{ltb-true}
+use Rattle.model.specs.Lists.{all}
+use Rattle.model.proofs.Bools.{all-head, all-tail}
+use Rattle.group.specs.declared.Slot.{Slot}
+use Rattle.group.specs.Layout.{slotsOf, ownerOf}
+use Rattle.group.specs.Answers.{noSlot}
+use Rattle.slots.specs.View.{Room, Shows}
+use Rattle.slots.specs.Edits.{replaceAt, atLevel, raiseFrom, canRise, renumbered, settle}
+use Rattle.slots.proofs.Behind.{behindFirst, behind-end, behind-turn}
+
+-- from s to t, where f of the slots from j on of n still is to make the slots l
+pub record Changing (f : List Slot → List Slot) (l : List Slot) (s t : List ℕ) (n j : ℕ) : Type 0 where
+  pub room : Room t
+  pub count : length (slotsOf t) ≡ n
+  pub rest : behindFirst j f (slotsOf t) ≡ l
+  pub owners : (o : ℕ) → o < 256 → ownerOf t o ≡ ownerOf s o
+
+module _ (f : List Slot → List Slot) where
+  pub change-start : (l : List Slot) (s : List ℕ) (n j : ℕ) → Room s → n ≡ length (slotsOf s) → behindFirst j f (slotsOf s) ≡ l → Changing f l s s n j
+  change-start l s n j room e d = record { room = room; count = sym e; rest = d; owners = λ o h. refl }
+
+  module _ (l : List Slot) (s t : List ℕ) (n j : ℕ) (so : Changing f l s t n j) where
+    -- slot j becomes y, and g is left for those behind it
+    pub change-turn : (g : List Slot → List Slot) (y : Slot) (u : List ℕ) → j < n → Shows u (replaceAt j y (slotsOf t)) (ownerOf t)
+        → ((m : List Slot) → f (getD (slotsOf t) j noSlot ∷ m) ≡ y ∷ g m) → Changing g l s u n (j + 1)
+    change-turn g y u h after e =
+        let count = so .count in
+        let long : length (slotsOf u) ≡ n = rw (after .1) (length-set (slotsOf t) j y ∙ count) in
+        let turned : behindFirst (suc j) g (replaceAt j y (slotsOf t)) ≡ l = behind-turn noSlot f g y j (slotsOf t) (omega arith) e ∙ so .rest in
+        record {
+          room = (after .0, omega (arith, so .room .1));
+          count = long;
+          rest = rw (add-one j, after .1) turned;
+          owners = λ o k. after .2 o k ∙ so .owners o k;
+        }
+
+    pub change-end : f [] ≡ [] → n ≤ j → Shows t l (ownerOf s)
+    change-end e h = let count = so .count in (so .room .0, sym (behind-end noSlot f j (slotsOf t) e (omega arith)) ∙ so .rest, so .owners)
+
+-- the levels of the slots from j on of n can rise
+abbrev pub CanRise : List ℕ → ℕ → ℕ → Type 0
+CanRise t n j = (k : ℕ) → j ≤ k → k < n → getD (slotsOf t) k noSlot .level < 65535
+
+rise-each : (l : List Slot) → all canRise l ≡ true → (k : ℕ) → k < length l → getD l k noSlot .level < 65535
+unfolding canRise
+rise-each [] a k h = absurd (omega arith)
+rise-each (x ∷ l) a zero h = ltb-true _ _ (all-head canRise x l a)
+rise-each (x ∷ l) a (suc k) h = rise-each l (all-tail canRise x l a) k (omega arith)
+
+pub rise-start : (t : List ℕ) (n j : ℕ) → n ≡ length (slotsOf t) → all canRise (slotsOf t) ≡ true → CanRise t n j
+rise-start t n j e a k h l = rise-each (slotsOf t) a k (omega arith)
+
+pub rise-turn : (t u : List ℕ) (n j : ℕ) (y : Slot) → slotsOf u ≡ replaceAt j y (slotsOf t) → CanRise t n j → CanRise u n (j + 1)
+rise-turn t u n j y e c k h l =
+    let kept : getD (slotsOf u) k noSlot ≡ getD (slotsOf t) k noSlot = rw e (getD-set-other (slotsOf t) j k y noSlot (λ i. omega arith)) in
+    rw kept (c k (omega arith) l)
+
+-- one slot raised, and one numbered anew
+pub raise-one : (x : Slot) (n : ℕ) → n ≡ x .level → (m : List Slot) → raiseFrom 0 (x ∷ m) ≡ atLevel (n + 1) x ∷ raiseFrom 0 m
+unfolding raiseFrom
+raise-one x n e m = rw (add-one n, e)
+
+pub settle-one : (old new : ℕ) (x : Slot) (l n : ℕ) → l ≡ x .level → n ≡ renumbered old new l → (m : List Slot) → settle old new (x ∷ m) ≡ atLevel n x ∷ settle l n m
+unfolding settle
+settle-one old new x l n e f m = rw (f, e)

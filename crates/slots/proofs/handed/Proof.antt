@@ -1,0 +1,29 @@
+-- `handed` meets its contract: one law for each way to return.
+use native.Mathlib.Omega.{arith}
+use Rattle.slots.proofs.Owning.{handed-named, handed-other}
+use mathlib.Core.Path.{sym, _∙_}
+use native.Mathlib.Numerals.{add-one}
+use Rattle.slots.specs.Owners.{either}
+use borrow.Author.Needs.{needs}
+use Rattle.slots.proofs.handed.Statement.{statement}
+use Rattle.slots.proofs.handed.Tie as tie
+
+add-if1 : tie.Need-add-if1
+add-if1 c = search needs
+
+returns : tie.Need-returns
+returns c = (sym (handed-other _ _ _ _ (λ e. c .if1 .taken (e ∙ sym (add-one _)))), omega arith)
+
+add-result : tie.Need-add-result
+add-result c = search needs
+
+returns-2 : tie.Need-returns-2
+unfolding either
+returns-2 c = (add-one _ ∙ sym (handed-named _ _ _ _ (c .before .if1 .left ∙ add-one _) ∙ rw (c .if2 .taken, either)), omega arith)
+
+returns-3 : tie.Need-returns-3
+unfolding either
+returns-3 c = (sym (handed-named _ _ _ _ (c .before .if1 .left ∙ add-one _) ∙ rw (c .if2 .left, either)), omega arith)
+
+pub handed-spec : {M : Type 1} → statement M
+handed-spec = tie.close (tie.spec add-if1 returns add-result returns-2 returns-3)

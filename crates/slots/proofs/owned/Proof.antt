@@ -1,0 +1,21 @@
+-- `owned` meets its contract: the start plus 1 where the offset is taken, else as before.
+use native.Mathlib.Omega.{arith}
+use native.Mathlib.Numerals.{add-one}
+use Rattle.slots.specs.Owners.{either, takenBy}
+use borrow.Author.Needs.{needs}
+use Rattle.slots.proofs.owned.Statement.{statement}
+use Rattle.slots.proofs.owned.Tie as tie
+
+add-result : tie.Need-add-result
+add-result c = search needs
+
+returns : tie.Need-returns
+unfolding takenBy either
+returns c = (rw (c .if1 .taken, add-one, either), omega arith)
+
+returns-2 : tie.Need-returns-2
+unfolding takenBy either
+returns-2 c = (rw (c .if1 .left, either), omega arith)
+
+pub owned-spec : {M : Type 1} → statement M
+owned-spec = tie.close (tie.spec add-result returns returns-2)

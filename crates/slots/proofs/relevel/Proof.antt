@@ -1,0 +1,31 @@
+-- `relevel` meets its contract: a store over the two bytes of the level.
+use Rattle.model.specs.Device.{groupLength}
+use Rattle.slots.proofs.SlotWrites.{relevel-shows}
+use borrow.Author.Needs.{needs}
+use Rattle.slots.proofs.relevel.Statement.{statement}
+use Rattle.slots.proofs.relevel.Tie as tie
+
+mul-put-u16 : tie.Need-mul-put-u16
+mul-put-u16 c = search needs
+
+add-put-u16 : tie.Need-add-put-u16
+add-put-u16 c = search needs
+
+add-put-u16-2 : tie.Need-add-put-u16-2
+add-put-u16-2 c = search needs
+
+put-u16-requires : tie.Need-put-u16-requires
+unfolding groupLength
+put-u16-requires c κs = search needs
+
+same-length : tie.Need-same-length
+same-length c = search needs
+
+returns : tie.Need-returns
+returns c =
+    let start = c .before .before .before .before .before in
+    relevel-shows _ _ _ _ (start .pre .0) (start .pre .1) (start .pre .2) (c .before .before .put-u16 .ensures)
+
+pub relevel-spec : {M : Type 1} → statement M
+relevel-spec =
+    tie.close (tie.spec mul-put-u16 add-put-u16 add-put-u16-2 put-u16-requires same-length returns)

@@ -1,0 +1,80 @@
+-- `settle` meets its contract: at each turn the slots from k on are left to number.
+use native.Mathlib.Omega.{arith}
+use Prim.Native.Nat.{_-_, _≤_}
+use mathlib.Core.Path.{refl, sym, _∙_}
+use Rattle.group.specs.Layout.{slotsOf}
+use Rattle.slots.specs.Edits.{settle}
+use Rattle.slots.proofs.Behind.{behindFirst}
+use Rattle.slots.proofs.SlotPass.{Changing, change-start, change-turn, change-end, settle-one}
+use Rattle.slots.proofs.settle.Statement.{statement}
+use Rattle.slots.proofs.settle.Tie as tie
+
+abbrev Inv-loop : tie.InvT-loop
+Inv-loop b₀ n old₀ new₀ k₀ b old new k = Changing (settle old new) (settle 0 0 (slotsOf b₀)) b₀ b n k × (new ≤ k)
+
+abbrev μ-loop : tie.MeasureT-loop
+μ-loop b₀ n old₀ new₀ k₀ b old new k = n - k
+
+used-requires : tie.Need-used-requires Inv-loop μ-loop
+used-requires c κs = c .before .before .pre .0
+
+loop-holds : tie.Need-loop-holds Inv-loop μ-loop
+unfolding behindFirst
+loop-holds c = (change-start _ _ _ _ _ (c .before .before .before .pre) (c .used .ensures .1) refl, omega arith)
+
+level-requires : tie.Need-level-requires Inv-loop μ-loop
+level-requires c κs =
+    let so = c .before .before .loop .inv .0 in
+    let count = so .count in
+    (so .room, omega arith)
+
+renumber-requires : tie.Need-renumber-requires Inv-loop μ-loop
+renumber-requires c κs =
+    let so = c .before .before .before .loop .inv .0 in
+    let count = so .count in
+    omega (arith, so .room .1)
+
+relevel-requires : tie.Need-relevel-requires Inv-loop μ-loop
+relevel-requires c κs =
+    let so = c .before .before .before .before .before .loop .inv .0 in
+    let count = so .count in
+    (so .room, omega arith, omega (arith, so .room .1))
+
+add-k : tie.Need-add-k Inv-loop μ-loop
+add-k c = omega arith
+
+loop-less : tie.Need-loop-less Inv-loop μ-loop
+loop-less c = omega arith
+
+loop-again : tie.Need-loop-again Inv-loop μ-loop
+loop-again c =
+    let so = c .before .before .before .before .before .before .before .before .loop .inv in
+    let number = c .before .before .before .before .renumber .ensures in
+    let turn = settle-one _ _ _ _ _ (c .before .before .before .before .before .level .ensures .0) (number .0) in (
+      change-turn _ _ _ _ _ _ (so .0) _ _ _ (c .before .before .before .before .before .before .before .loop-test .taken) (c .before .before .relevel .ensures) turn,
+      omega (arith, number .1, so .1),
+    )
+
+same-length : tie.Need-same-length Inv-loop μ-loop
+same-length c = c .before .loop .inv .0 .room .0 ∙ sym (c .before .before .before .before .before .pre .0)
+
+returns : tie.Need-returns Inv-loop μ-loop
+unfolding settle
+returns c = change-end _ _ _ _ _ _ (c .before .loop .inv .0) refl (c .loop-test .left)
+
+pub settle-spec : {M : Type 1} → statement M
+settle-spec =
+    tie.close
+    (tie.spec
+    Inv-loop
+    μ-loop
+    used-requires
+    loop-holds
+    level-requires
+    renumber-requires
+    relevel-requires
+    add-k
+    loop-less
+    loop-again
+    same-length
+    returns)

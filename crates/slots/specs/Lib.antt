@@ -1,0 +1,4 @@
+pub mod Coding
+pub mod View
+pub mod Edits
+pub mod Owners

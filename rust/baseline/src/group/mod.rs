@@ -1,0 +1,15 @@
+//! One group in its bytes. The functions that change a group expect a sound one
+//! and leave a sound one.
+
+mod compact;
+mod find;
+mod insert;
+mod members;
+mod part;
+mod sound;
+
+pub use compact::compact;
+pub use find::{find, Found};
+pub use insert::{insert, take};
+pub use part::{records, Part};
+pub use sound::sound;

@@ -1,0 +1,95 @@
+//! The places in a group's bytes.
+
+use crate::layout::{GROUP_BYTES, OWNED_AT, OWNERS_AT, OWNER_BYTES, SLOTS_AT, SLOT_BYTES};
+use crate::offsets::Offsets;
+use crate::record::Record;
+
+/// A group's bytes.
+pub type Part = [u8; GROUP_BYTES];
+
+/// A slot's bytes: a record and its level. Used slots stand in listing order.
+pub(super) type Slot = [u8; SLOT_BYTES];
+
+/// An owner's bytes: 0, or its record's start plus 1.
+type Owner = [u8; OWNER_BYTES];
+
+/// How many records the group holds.
+#[inline]
+pub fn records(part: &Part) -> usize {
+    usize::from(u16::from_le_bytes([part[0], part[1]]))
+}
+
+#[inline]
+pub(super) fn set_records(part: &mut Part, count: usize) {
+    part[..2].copy_from_slice(&(count as u16).to_le_bytes());
+}
+
+/// Whether any offset is owned; otherwise the owners' bytes mean nothing.
+#[inline]
+pub(super) fn is_owned(part: &Part) -> bool {
+    part[OWNED_AT] | part[OWNED_AT + 1] != 0
+}
+
+#[inline]
+pub(super) fn set_owned(part: &mut Part, owned: bool) {
+    part[OWNED_AT] = owned.into();
+    part[OWNED_AT + 1] = 0;
+}
+
+#[inline]
+pub(super) fn slots(part: &Part) -> &[Slot] {
+    part[SLOTS_AT..OWNERS_AT].as_chunks().0
+}
+
+#[inline]
+pub(super) fn slots_mut(part: &mut Part) -> &mut [Slot] {
+    part[SLOTS_AT..OWNERS_AT].as_chunks_mut().0
+}
+
+#[inline]
+pub(super) fn owners(part: &Part) -> &[Owner] {
+    part[OWNERS_AT..].as_chunks().0
+}
+
+#[inline]
+pub(super) fn owners_mut(part: &mut Part) -> &mut [Owner] {
+    part[OWNERS_AT..].as_chunks_mut().0
+}
+
+/// What is stored for an offset that the record with this start owns.
+#[inline]
+pub(super) fn name(start: u8) -> Owner {
+    (u16::from(start) + 1).to_le_bytes()
+}
+
+/// Gives offsets an owner.
+#[inline]
+pub(super) fn set_owners(part: &mut Part, offsets: Offsets, owner: Owner) {
+    let owners = owners_mut(part);
+    for offset in offsets.iter() {
+        owners[usize::from(offset)] = owner;
+    }
+}
+
+#[inline]
+pub(super) fn slot(record: Record, level: u16) -> Slot {
+    let [s, l, w0, w1, i0, i1, i2, i3] = record.to_bytes();
+    let [l0, l1] = level.to_le_bytes();
+    [s, l, w0, w1, i0, i1, i2, i3, l0, l1]
+}
+
+#[inline]
+pub(super) fn record(slot: &Slot) -> Record {
+    let [s, l, w0, w1, i0, i1, i2, i3, _, _] = *slot;
+    Record::from_bytes([s, l, w0, w1, i0, i1, i2, i3])
+}
+
+#[inline]
+pub(super) fn level(slot: &Slot) -> u16 {
+    u16::from_le_bytes([slot[8], slot[9]])
+}
+
+#[inline]
+pub(super) fn set_level(slot: &mut Slot, level: u16) {
+    [slot[8], slot[9]] = level.to_le_bytes();
+}

@@ -1,0 +1,91 @@
+//! The record by value.
+
+use crate::offsets::Offsets;
+
+/// A record's bytes: start, span, word and intercept, little-endian.
+pub const RECORD_BYTES: usize = 8;
+
+/// A record; the offsets that an approximate one owns are kept by its group.
+#[derive(Clone, Copy, Debug, Default, PartialEq, Eq)]
+pub struct Record {
+    /// S, the first offset covered.
+    pub start: u8,
+    /// L: offsets S to S + L are covered.
+    pub span: u8,
+    /// 0 single, 2d accurate with stride d, 2a + 1 approximate with slope a / 256.
+    pub word: u16,
+    /// I, what predictions are counted from.
+    pub intercept: i32,
+}
+
+impl Record {
+    /// The record of eight bytes.
+    #[inline]
+    pub fn from_bytes(bytes: [u8; RECORD_BYTES]) -> Record {
+        let [start, span, w0, w1, i0, i1, i2, i3] = bytes;
+        Record {
+            start,
+            span,
+            word: u16::from_le_bytes([w0, w1]),
+            intercept: i32::from_le_bytes([i0, i1, i2, i3]),
+        }
+    }
+
+    /// The record's eight bytes.
+    #[inline]
+    pub fn to_bytes(self) -> [u8; RECORD_BYTES] {
+        let [w0, w1] = self.word.to_le_bytes();
+        let [i0, i1, i2, i3] = self.intercept.to_le_bytes();
+        [self.start, self.span, w0, w1, i0, i1, i2, i3]
+    }
+
+    /// Whether the record is approximate, of a word as tabled.
+    #[inline]
+    pub fn is_approximate(self) -> bool {
+        self.word % 2 == 1
+    }
+
+    /// The last offset covered, of a sound record.
+    #[inline]
+    pub fn last(self) -> u8 {
+        self.start + self.span
+    }
+
+    /// Whether the ranges of two sound records meet.
+    #[inline]
+    pub fn meets(self, other: Record) -> bool {
+        self.start <= other.last() && other.start <= self.last()
+    }
+
+    /// The members of a sound single or accurate record.
+    #[inline]
+    pub fn exact_members(self) -> Offsets {
+        Offsets::strided(self.start, self.last(), (self.word / 2) as u8)
+    }
+
+    /// The record with the range of these members, if there is one.
+    #[inline]
+    pub fn narrowed(self, members: Offsets) -> Option<Record> {
+        let (start, last) = members.ends()?;
+        let span = last - start;
+        Some(Record {
+            start,
+            span,
+            ..self
+        })
+    }
+
+    /// The predicted page at an offset, of a word as tabled; it may lie outside
+    /// the device.
+    #[inline]
+    pub fn predicted(self, offset: u8) -> i64 {
+        let factor = u32::from(self.word / 2);
+        let offset = u32::from(offset);
+        let rise = match self.word {
+            0 => 0,
+            _ if self.is_approximate() => (factor * offset).div_ceil(256),
+            _ => offset.div_ceil(factor),
+        };
+        i64::from(self.intercept) + i64::from(rise)
+    }
+}

@@ -1,0 +1,176 @@
+//! The declarations and the wrappers: the only `unsafe` code.
+//!
+//! Each call is safe for one reason: pointer and length are those of a slice that
+//! is borrowed for the time of the call, `&mut` where the function writes. What
+//! else a function requires of its arguments, the wrapper tests before the call.
+
+use crate::{Compact, Find, Found, Insert, Learn, Sort, Sound, GROUP_BYTES, OUTSIDE};
+
+/// Sorting a batch.
+pub const SORT: Option<Sort> = if cfg!(probe_sort) { Some(sort) } else { None };
+
+/// Learning a sorted batch.
+pub const LEARN: Option<Learn> = if cfg!(probe_learn) { Some(learn) } else { None };
+
+/// A group's soundness.
+pub const SOUND: Option<Sound> = if cfg!(probe_group_sound) {
+    Some(sound)
+} else {
+    None
+};
+
+/// Finding an offset in a group.
+pub const FIND: Option<Find> = if cfg!(probe_group_find) {
+    Some(find)
+} else {
+    None
+};
+
+/// Inserting a record into a group.
+pub const INSERT: Option<Insert> = if cfg!(probe_group_insert) {
+    Some(insert)
+} else {
+    None
+};
+
+/// Compacting a group.
+pub const COMPACT: Option<Compact> = if cfg!(probe_group_compact) {
+    Some(compact)
+} else {
+    None
+};
+
+// A declared function is linked only where its wrapper is used, and that is where
+// the library has it.
+extern "C" {
+    fn probe_sort(
+        batch: *const u32,
+        batch_length: usize,
+        pages: *mut u32,
+        pages_length: usize,
+        sources: *mut u32,
+        sources_length: usize,
+    ) -> u64;
+
+    fn probe_learn(
+        written: *const u32,
+        written_length: usize,
+        first: u32,
+        g: u32,
+        out: *mut u8,
+        out_length: usize,
+        taken: *mut u32,
+        taken_length: usize,
+    ) -> u64;
+
+    fn probe_group_sound(part: *const u8, part_length: usize, n: u32, k: u32) -> u64;
+
+    fn probe_group_find(part: *const u8, part_length: usize, o: u32) -> u64;
+
+    fn probe_group_insert(
+        part: *mut u8,
+        part_length: usize,
+        record: *const u8,
+        record_length: usize,
+        mask: *const u8,
+        mask_length: usize,
+    ) -> u64;
+
+    fn probe_group_compact(part: *mut u8, part_length: usize) -> u64;
+}
+
+fn sort(batch: &[u32], pages: &mut [u32], sources: &mut [u32]) -> usize {
+    assert!(batch.len() <= 256, "a batch has at most 256 pages");
+    assert!(pages.len() >= batch.len(), "the list of pages is too short");
+    assert!(
+        sources.len() >= batch.len(),
+        "the list of sources is too short"
+    );
+    assert!(
+        batch.iter().all(|&page| page < 1 << 20),
+        "a page is out of range"
+    );
+    // SAFETY: three borrowed slices, the last two for writing.
+    let answer = unsafe {
+        probe_sort(
+            batch.as_ptr(),
+            batch.len(),
+            pages.as_mut_ptr(),
+            pages.len(),
+            sources.as_mut_ptr(),
+            sources.len(),
+        )
+    };
+    accepted(answer) as usize
+}
+
+fn learn(written: &[u32], first: u32, g: u32, out: &mut [u8]) -> usize {
+    assert!(written.len() <= 256, "a batch has at most 256 pages");
+    assert!(
+        out.len() >= 8 * written.len(),
+        "there is no room for the records"
+    );
+    assert!(
+        written.windows(2).all(|pair| pair[0] < pair[1]),
+        "the batch is not sorted"
+    );
+    assert!(g <= 15 && first as usize + written.len() <= 1 << 21);
+    let mut taken = [0; 256];
+    // SAFETY: three borrowed slices, the last two for writing.
+    let answer = unsafe {
+        probe_learn(
+            written.as_ptr(),
+            written.len(),
+            first,
+            g,
+            out.as_mut_ptr(),
+            out.len(),
+            taken.as_mut_ptr(),
+            taken.len(),
+        )
+    };
+    accepted(answer) as usize
+}
+
+fn sound(part: &[u8; GROUP_BYTES], n: u32, k: u32) -> bool {
+    // SAFETY: a borrowed slice.
+    let answer = unsafe { probe_group_sound(part.as_ptr(), part.len(), n, k) };
+    match accepted(answer) {
+        0 => false,
+        1 => true,
+        other => panic!("neither sound nor not: {other}"),
+    }
+}
+
+fn find(part: &[u8; GROUP_BYTES], offset: u8) -> Found {
+    // SAFETY: a borrowed slice.
+    let answer = unsafe { probe_group_find(part.as_ptr(), part.len(), offset.into()) };
+    Found::unpacked(accepted(answer)).expect("a packed answer")
+}
+
+fn insert(part: &mut [u8; GROUP_BYTES], record: &[u8; 8], mask: &[u8; 256]) -> usize {
+    // SAFETY: three borrowed slices, the first for writing.
+    let answer = unsafe {
+        probe_group_insert(
+            part.as_mut_ptr(),
+            part.len(),
+            record.as_ptr(),
+            record.len(),
+            mask.as_ptr(),
+            mask.len(),
+        )
+    };
+    accepted(answer) as usize
+}
+
+fn compact(part: &mut [u8; GROUP_BYTES]) -> usize {
+    // SAFETY: a borrowed slice, for writing.
+    let answer = unsafe { probe_group_compact(part.as_mut_ptr(), part.len()) };
+    accepted(answer) as usize
+}
+
+/// The answer to arguments that meet the function's condition.
+fn accepted(answer: u64) -> u64 {
+    assert_ne!(answer, OUTSIDE, "the arguments don't meet the condition");
+    answer
+}
