@@ -18,7 +18,7 @@ use Rattle.model.proofs.SoundRecord.{sound-ascends, sound-owner, owned-
 use Rattle.model.proofs.SoundRecords.{insert-records, compact-records}
 
 -- 1 of a record that owns o, 0 of another
-owns : ℕ → Record → ℕ
+unfoldable pub owns : ℕ → Record → ℕ
 owns o r = indicator (elem o (r .owned))
 
 -- Whether r owns o, with the number.
@@ -46,7 +46,7 @@ unfolding owns
 owns-lessens o lost r s e = indicator-le (elem o (s .owned)) (elem o (r .owned)) (λ h. shrunk-owned lost r s e o h .0)
 
 -- each offset has at most one owner in the list
-OwnedOnce : List Record → Type 0
+abbrev pub OwnedOnce : List Record → Type 0
 OwnedOnce l = (o : ℕ) → total (owns o) l ≤ 1
 
 unowned : (o : ℕ) (l : List Record) → (elem o (ownedOffsets l) ≡ true → ⊥) → total (owns o) l ≡ 0
@@ -55,7 +55,8 @@ unowned o [] f = refl
 unowned o (r ∷ l) f =
     omega (arith, disowns o r (λ h. f (elem-left o (r .owned) (ownedOffsets l) h)), unowned o l (λ h. f (elem-right o (r .owned) (ownedOffsets l) h)))
 
-once-of : (l : List Record) → distinct (ownedOffsets l) ≡ true → OwnedOnce l
+-- from the rule of a sound group
+pub once-of : (l : List Record) → distinct (ownedOffsets l) ≡ true → OwnedOnce l
 unfolding total ownedOffsets OwnedOnce
 once-of [] d o = omega arith
 once-of (r ∷ l) d o = go (owns? o r) (once-of l (distinct-right (r .owned) (ownedOffsets l) d) o)

@@ -41,7 +41,8 @@ sink-filled s (l ∷ g) h = go (meetsAny s l) refl
     go true e = rw (e, sink) h
     go false e = rw (e, sink) (all-cons isFilled (into s l) g (into-filled s l) (all-tail isFilled l g h))
 
-sinkAll-filled : (l : List Record) (g : Group) → all isFilled g ≡ true → all isFilled (sinkAll l g) ≡ true
+-- Records that sink leave no level empty.
+pub sinkAll-filled : (l : List Record) (g : Group) → all isFilled g ≡ true → all isFilled (sinkAll l g) ≡ true
 unfolding sinkAll
 sinkAll-filled [] g h = h
 sinkAll-filled (s ∷ l) g h = sinkAll-filled l (sink s g) (sink-filled s g h)

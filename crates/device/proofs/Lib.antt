@@ -1,0 +1,14 @@
+pub mod Places
+pub mod Within
+pub mod Head
+pub mod Tables
+pub mod Shaping
+pub mod Writers
+pub mod Scanning
+pub mod Handing
+pub mod Refusing
+pub mod Blank
+pub mod Erasing
+pub mod Formatting
+pub mod Seeking
+pub mod Looking

@@ -1,0 +1,137 @@
+-- A lookup's ways: no record holds the offset; one does, and its page exists and is named, or not. Assumes nothing.
+use mathlib.Core.Path.{_≡_, refl, sym, ap, _∙_}
+use mathlib.Core.List.{List, [], _∷_}
+use mathlib.Core.Option.{Option, none, some, Option·map}
+use mathlib.Core.Bool.{Bool, true, false}
+use Prim.Native.Nat.{ℕ, _/_, _%_, _≤_, _<_}
+use native.Mathlib.Omega.{arith}
+use lib.Dec.{ltb, eqb}
+use lib.IntN.{ℤ, pos, negsuc}
+use borrow.Author.Tests.{ltb-true, leb-true, eqb-true}
+use Rattle.model.specs.Lists.{all, orElse}
+use Rattle.model.specs.Device.{Device, pages, offsetOf, groupOf}
+use Rattle.model.specs.Record.{Record, Kind, accurate, approximate, kindOf, kind, member, predict}
+use Rattle.model.specs.Spare.{pageNamed}
+use Rattle.model.specs.Levels.{Group, listing, holder, levelsTo}
+use Rattle.model.specs.State.{State, groupAt}
+use Rattle.model.specs.Sound.{soundAs, soundRecord, soundGroup}
+use Rattle.model.proofs.Bools.{and-l, all-head, all-tail}
+use Rattle.model.proofs.SoundRecord.{record-parts}
+use Rattle.model.proofs.SoundGroup.{group-parts}
+use Rattle.calls.specs.Lookup.{Sought, at, nowhere, unnamed, soughtNamed, soughtAt, soughtBy, seek}
+use Rattle.record.specs.Read.{asRecord, bare, existing}
+use Rattle.record.specs.declared.Record as code
+use Rattle.device.proofs.Refusing.{none-some}
+
+-- by the page that is predicted
+data Predicted (d : Device) (spare : List ℕ) (x n : ℕ) : Option ℕ → Sought → Type 0 where
+  outside : Predicted d spare x n none unnamed
+  inside : (q : ℕ) → q < pages d → Predicted d spare x n (some q) (soughtNamed n q (pageNamed d spare q x))
+
+predicted : (d : Device) (spare : List ℕ) (x n : ℕ) (z : ℤ) → Predicted d spare x n (existing (pages d) z) (soughtAt d spare x n z)
+unfolding existing soughtAt
+predicted d spare x n (negsuc m) = outside
+predicted d spare x n (pos p) = go (ltb p (pages d)) refl
+  where
+    go : (t : Bool) → ltb p (pages d) ≡ t → Predicted d spare x n (elim t [ true ↦ some p | false ↦ none ]) (elim t [ true ↦ soughtNamed n p (pageNamed d spare p x) | false ↦ unnamed ])
+    go true e = inside p (ltb-true p (pages d) e)
+    go false e = outside
+
+module _ (d : Device) (spare : List ℕ) (x n : ℕ) where
+  outside-is : {o : Option ℕ} {s : Sought} → Predicted d spare x n o s → none ≡ o → unnamed ≡ s
+  outside-is outside e = refl
+  outside-is (inside q l) e = none-some e
+
+  inside-there : {o : Option ℕ} {s : Sought} (q : ℕ) → Predicted d spare x n o s → some q ≡ o → q < pages d
+  inside-there q outside e = none-some (sym e)
+  inside-there q (inside p l) e = let f : q ≡ p = cc in rw f l
+
+  inside-is : {o : Option ℕ} {s : Sought} (q : ℕ) (a : Option ℕ) → Predicted d spare x n o s → some q ≡ o → a ≡ pageNamed d spare q x → soughtNamed n q a ≡ s
+  inside-is q a outside e f = none-some (sym e)
+  inside-is q a (inside p l) e f = let g : q ≡ p = cc in rw (f, g)
+
+  module _ (z : ℤ) where
+    pub no-page : none ≡ existing (pages d) z → unnamed ≡ soughtAt d spare x n z
+    no-page e = outside-is (predicted d spare x n z) e
+
+    -- page q exists, and what its entries name decides
+    pub page-exists : (q : ℕ) → some q ≡ existing (pages d) z → q < pages d
+    page-exists q e = inside-there q (predicted d spare x n z) e
+
+    pub page-named : (q p : ℕ) → some q ≡ existing (pages d) z → some p ≡ pageNamed d spare q x → at p q n ≡ soughtAt d spare x n z
+    unfolding soughtNamed
+    page-named q p e f = inside-is q (some p) (predicted d spare x n z) e f
+
+    pub page-unnamed : (q : ℕ) → some q ≡ existing (pages d) z → none ≡ pageNamed d spare q x → unnamed ≡ soughtAt d spare x n z
+    unfolding soughtNamed
+    page-unnamed q e f = inside-is q none (predicted d spare x n z) e f
+
+-- a sound record's word
+strided : (r : Record) (d : ℕ) → soundAs (accurate d) r ≡ true → d ≤ 255
+unfolding soundAs
+strided r d h = leb-true d 255 (search and-l)
+
+sloped : (r : Record) (a : ℕ) → soundAs (approximate a) r ≡ true → a ≤ 256
+unfolding soundAs
+sloped r a h = leb-true a 256 (search and-l)
+
+word-bound : (r : Record) → soundAs (kind r) r ≡ true → r .word ≤ 513
+unfolding kindOf
+word-bound r h = go (eqb (r .word) 0) refl (eqb (r .word % 2) 0) refl
+  where
+    fit : (k : Kind) → kindOf (r .word) ≡ k → soundAs k r ≡ true
+    fit k e = rw e at h
+
+    go : (t : Bool) → eqb (r .word) 0 ≡ t → (u : Bool) → eqb (r .word % 2) 0 ≡ u → r .word ≤ 513
+    go true e u f = omega (arith, eqb-true (r .word) 0 e)
+    go false e true f = omega (arith, strided r (r .word / 2) (fit (accurate (r .word / 2)) (rw (e, f, kindOf))))
+    go false e false f = omega (arith, sloped r (r .word / 2) (fit (approximate (r .word / 2)) (rw (e, f, kindOf))))
+
+-- the record that holds an offset is one of the sound ones
+holder-sound : (t : Record → Bool) (o : ℕ) (l : List Record) (m : Record) → all t l ≡ true → holder o l ≡ some m → t m ≡ true
+unfolding holder orElse
+holder-sound t o [] m h e = none-some e
+holder-sound t o (r ∷ l) m h e = go (member r o) refl (holder-sound t o l m (all-tail t r l h))
+  where
+    go : (b : Bool) → member r o ≡ b → (holder o l ≡ some m → t m ≡ true) → t m ≡ true
+    go true q ih =
+        let f : some r ≡ some m = rw q at e in
+        let g : r ≡ m = cc in
+        rw (← g) (all-head t r l h)
+    go false q ih = ih (rw q at e)
+
+-- what was found in group g: the record that holds offset o, without the offsets that it owns
+module _ (N k o : ℕ) (g : Group) (h : soundGroup N k g ≡ true) (r : code.Record) (e : some r ≡ Option·map bare (holder o (listing g))) where
+  from : (a : Option Record) → holder o (listing g) ≡ a → some r ≡ Option·map bare a → (m : Record) × (holder o (listing g) ≡ some m) × (bare m ≡ r)
+  from none q f = none-some (sym f)
+  from (some m) q f = (m, q, cc)
+
+  held : (m : Record) × (holder o (listing g) ≡ some m) × (bare m ≡ r)
+  held = from (holder o (listing g)) refl e
+
+  pub held-word : r .word ≤ 513
+  held-word =
+      let s : soundRecord N k (held .0) ≡ true = holder-sound (soundRecord N k) o (listing g) (held .0) (group-parts N k g h .records) (held .1) in
+      rw (← held .2) (word-bound (held .0) (record-parts N k (held .0) s .shape))
+
+  pub held-owned : List ℕ
+  held-owned = held .0 .owned
+
+  pub held-is : holder o (listing g) ≡ some (asRecord r held-owned)
+  unfolding held-owned
+  held-is = held .1 ∙ ap (λ (b : code.Record). some (asRecord b (held .0 .owned))) (held .2)
+
+-- so a lookup is what its record gives, or nothing
+module _ (s : State) (d : Device) (spare : List ℕ) (x : ℕ) (numbers : s .device ≡ d) where
+  pub seek-held : (r : Record) (n : ℕ) (t : Sought) → holder (offsetOf x) (listing (groupAt s (groupOf x))) ≡ some r → n ≡ levelsTo (offsetOf x) (groupAt s (groupOf x))
+      → t ≡ soughtAt d spare x n (predict r (offsetOf x)) → t ≡ seek s spare x
+  unfolding seek soughtBy
+  seek-held r n t e f q = q ∙ rw (e, ← f, numbers)
+
+  pub seek-none : (n : ℕ) → none ≡ Option·map bare (holder (offsetOf x) (listing (groupAt s (groupOf x)))) → n ≡ levelsTo (offsetOf x) (groupAt s (groupOf x)) → nowhere n ≡ seek s spare x
+  unfolding seek soughtBy
+  seek-none n e f = go (holder (offsetOf x) (listing (groupAt s (groupOf x)))) e
+    where
+      go : (a : Option Record) → none ≡ Option·map bare a → nowhere n ≡ soughtBy (s .device) spare x (levelsTo (offsetOf x) (groupAt s (groupOf x))) a
+      go none e = rw f
+      go (some m) e = none-some e

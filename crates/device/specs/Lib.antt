@@ -1,0 +1,6 @@
+pub mod Reading
+pub mod Ran
+pub mod Shaped
+pub mod Formatting
+pub mod Answers
+pub mod Opening
