@@ -1,0 +1,12 @@
+pub mod Parts
+pub mod Before
+pub mod PutSlot
+pub mod Back
+pub mod BackAll
+pub mod Marks
+pub mod Others
+pub mod Held
+pub mod Turn
+pub mod ShrinkAll
+pub mod Whole
+pub mod Read

@@ -1,0 +1,23 @@
+-- `meets_there` meets its contract: by its level, then by its range.
+use Rattle.table.proofs.Scanning.{there-not, there-meets}
+use borrow.Author.Needs.{needs}
+use Rattle.table.proofs.meets_there.Statement.{statement}
+use Rattle.table.proofs.meets_there.Tie as tie
+use Rattle.table.proofs.meets_there.Reads as reads
+use Rattle.table.proofs.meets_there.Lts as lts
+use Rattle.record.proofs.Record.meets.Reads as meets-reads
+
+-- src/lib.rt:62:9
+returns : tie.Need-returns
+returns c = λ p L e. there-not _ _ _ p L e (c .if1 .taken)
+
+-- src/lib.rt:65:5
+meets-requires : tie.Need-meets-requires
+meets-requires c κs = search needs
+
+-- src/lib.rt:58:1
+returns-2 : tie.Need-returns-2
+returns-2 c = λ p L e. there-meets _ _ _ p L e (c .before .before .if1 .left) _ (c .meets .ensures)
+
+pub meets-there-spec : {M : Type 1} → statement M
+meets-there-spec = tie.close (tie.spec returns meets-requires returns-2)
