@@ -44,16 +44,7 @@ groups-end d = refl
 pub state-end : (d : Device) (k p : ℕ) → p ≡ groupPlace d k → k ≡ groupCount d → p ≡ stateLength d
 state-end d k p e f = e ∙ ap (groupPlace d) f ∙ groups-end d
 
--- behind the counts come the groups
-pub counts-end : (d : Device) → groupPlace d 0 ≡ countPlace (d .M)
-unfolding groupPlace groupLength
-counts-end d = omega arith
-
 -- one behind the other
-pub count-next : (k : ℕ) → countPlace (k + 1) ≡ countPlace k + 2
-unfolding countPlace countLength
-count-next k = omega arith
-
 pub count-before : (k n : ℕ) → k < n → countPlace k + 2 ≤ countPlace n
 unfolding countPlace countLength
 count-before k n h = omega arith
