@@ -8,7 +8,7 @@ use native.Mathlib.Nat.{div-le-self}
 use lib.Dec.{ltb}
 use lib.ListN.{length, getD, length-append, List·getD-append}
 use lib.Seq.{getD-append-add}
-use lib.IntN.{ℤ, pos, negsuc, natAbs, subℕ, _+ℤ_}
+use lib.IntN.{ℤ, pos, negsuc, natAbs, _+ℤ_}
 use lib.Signed.{nonNeg}
 use borrow.Author.Tests.{ltb-false}
 use mir.Syntax.{w32}
@@ -23,7 +23,6 @@ use Rattle.model.proofs.Run.{Near}
 use Rattle.model.proofs.Approximation.{rise-small}
 use Rattle.model.proofs.Runs.{Part, Parted}
 use Rattle.model.proofs.Learned.{learn-parted, learn-length}
-use Rattle.bytes.proofs.Same.{Same}
 use Rattle.record.specs.Read.{bare}
 use Rattle.record.specs.Coding.{recordAt, eight, InEight}
 use Rattle.record.proofs.Coding.{length-eight, record-same, decode-encode}

@@ -2,8 +2,6 @@
 use Rattle.table.proofs.Scanning.{before-level, before-other}
 use Rattle.table.proofs.before.Statement.{statement}
 use Rattle.table.proofs.before.Tie as tie
-use Rattle.table.proofs.before.Reads as reads
-use Rattle.table.proofs.before.Lts as lts
 
 -- src/lib.rt:35:9
 returns : tie.Need-returns

@@ -9,11 +9,6 @@ use Rattle.table.proofs.GivingUp.{give-none, give-kept, give-gone}
 use borrow.Author.Needs.{needs}
 use Rattle.table.proofs.give_up.Statement.{statement}
 use Rattle.table.proofs.give_up.Tie as tie
-use Rattle.table.proofs.give_up.Reads as reads
-use Rattle.table.proofs.give_up.Lts as lts
-use Rattle.record.proofs.Record.is_approximate.Reads as is-approximate-reads
-use Rattle.slots.proofs.get.Reads as get-reads
-use Rattle.table.proofs.shrink_owner.Reads as shrink-owner-reads
 
 -- src/lib.rt:149:9
 get-requires : tie.Need-get-requires

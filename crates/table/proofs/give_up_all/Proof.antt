@@ -8,10 +8,6 @@ use Rattle.table.specs.Shown.{Shown}
 use Rattle.table.proofs.GivingUp.{GivingUp, giving-start, giving-inside, giving-turn, giving-end}
 use Rattle.table.proofs.give_up_all.Statement.{statement}
 use Rattle.table.proofs.give_up_all.Tie as tie
-use Rattle.table.proofs.give_up_all.Reads as reads
-use Rattle.table.proofs.give_up_all.Lts as lts
-use Rattle.slots.proofs.used.Reads as used-reads
-use Rattle.table.proofs.give_up.Reads as give-up-reads
 
 abbrev Inv-loop : tie.InvT-loop
 Inv-loop b₀ taken k₀ i₀ b k i = (l : List Placed) → Shown b₀ l → GivingUp (masked taken) l b k i

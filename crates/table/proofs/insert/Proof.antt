@@ -6,14 +6,6 @@ use Rattle.table.proofs.Insertion.{ready-shown, read-inserted, top-room
 use borrow.Author.Needs.{needs}
 use Rattle.table.proofs.insert.Statement.{statement}
 use Rattle.table.proofs.insert.Tie as tie
-use Rattle.table.proofs.insert.Reads as reads
-use Rattle.table.proofs.insert.Lts as lts
-use Rattle.record.proofs.Record.is_approximate.Reads as is-approximate-reads
-use Rattle.slots.proofs.own.Reads as own-reads
-use Rattle.slots.proofs.settle.Reads as settle-reads
-use Rattle.table.proofs.give_up_all.Reads as give-up-all-reads
-use Rattle.table.proofs.top.Reads as top-reads
-use Rattle.table.proofs.victims.Reads as victims-reads
 
 -- src/lib.rt:256:8
 is-approximate-requires : tie.Need-is-approximate-requires

@@ -14,11 +14,6 @@ use Rattle.table.proofs.Sinking.{lower-shown}
 use borrow.Author.Needs.{needs}
 use Rattle.table.proofs.lower.Statement.{statement}
 use Rattle.table.proofs.lower.Tie as tie
-use Rattle.table.proofs.lower.Reads as reads
-use Rattle.table.proofs.lower.Lts as lts
-use Rattle.slots.proofs.get.Reads as get-reads
-use Rattle.slots.proofs.remove.Reads as remove-reads
-use Rattle.table.proofs.sink_in.Reads as sink-in-reads
 
 -- src/lib.rt:198:9
 get-requires : tie.Need-get-requires

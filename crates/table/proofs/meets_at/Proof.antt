@@ -6,11 +6,6 @@ use Rattle.group.specs.Layout.{slotsOf}
 use Rattle.table.proofs.Scanning.{Looking, look-start, look-turn, look-found, look-end}
 use Rattle.table.proofs.meets_at.Statement.{statement}
 use Rattle.table.proofs.meets_at.Tie as tie
-use Rattle.table.proofs.meets_at.Reads as reads
-use Rattle.table.proofs.meets_at.Lts as lts
-use Rattle.slots.proofs.get.Reads as get-reads
-use Rattle.slots.proofs.used.Reads as used-reads
-use Rattle.table.proofs.meets_there.Reads as meets-there-reads
 
 abbrev Inv-loop : tie.InvT-loop
 Inv-loop b n r m j₀ j = (j ≤ m) × Looking (slotsOf b) n r j

@@ -3,9 +3,6 @@ use Rattle.table.proofs.Scanning.{there-not, there-meets}
 use borrow.Author.Needs.{needs}
 use Rattle.table.proofs.meets_there.Statement.{statement}
 use Rattle.table.proofs.meets_there.Tie as tie
-use Rattle.table.proofs.meets_there.Reads as reads
-use Rattle.table.proofs.meets_there.Lts as lts
-use Rattle.record.proofs.Record.meets.Reads as meets-reads
 
 -- src/lib.rt:62:9
 returns : tie.Need-returns

@@ -7,11 +7,6 @@ use Rattle.group.specs.Layout.{slotsOf}
 use Rattle.table.proofs.Scanning.{Passing, pass-start, pass-turn, pass-stop, pass-end}
 use Rattle.table.proofs.place_of.Statement.{statement}
 use Rattle.table.proofs.place_of.Tie as tie
-use Rattle.table.proofs.place_of.Reads as reads
-use Rattle.table.proofs.place_of.Lts as lts
-use Rattle.slots.proofs.get.Reads as get-reads
-use Rattle.slots.proofs.used.Reads as used-reads
-use Rattle.table.proofs.before.Reads as before-reads
 
 abbrev Inv-loop : tie.InvT-loop
 Inv-loop b n start k i₀ i = (i ≤ k) × Passing (slotsOf b) n start i

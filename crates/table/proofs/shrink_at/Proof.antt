@@ -5,12 +5,6 @@ use Rattle.table.proofs.ShrinkSlot.{kind-held}
 use borrow.Author.Needs.{needs}
 use Rattle.table.proofs.shrink_at.Statement.{statement}
 use Rattle.table.proofs.shrink_at.Tie as tie
-use Rattle.table.proofs.shrink_at.Reads as reads
-use Rattle.table.proofs.shrink_at.Lts as lts
-use Rattle.record.proofs.Record.is_approximate.Reads as is-approximate-reads
-use Rattle.slots.proofs.get.Reads as get-reads
-use Rattle.table.proofs.shrink_other.Reads as shrink-other-reads
-use Rattle.table.proofs.shrink_owner.Reads as shrink-owner-reads
 
 -- src/lib.rt:136:9
 get-requires : tie.Need-get-requires

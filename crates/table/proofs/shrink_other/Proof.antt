@@ -4,12 +4,6 @@ use Rattle.table.proofs.ShrinkSlot.{held-short, kind-slot, other-eight,
 use borrow.Author.Needs.{needs}
 use Rattle.table.proofs.shrink_other.Statement.{statement}
 use Rattle.table.proofs.shrink_other.Tie as tie
-use Rattle.table.proofs.shrink_other.Reads as reads
-use Rattle.table.proofs.shrink_other.Lts as lts
-use Rattle.record.proofs.Record.shrink_accurate.Reads as shrink-accurate-reads
-use Rattle.slots.proofs.get.Reads as get-reads
-use Rattle.slots.proofs.put.Reads as put-reads
-use Rattle.slots.proofs.remove.Reads as remove-reads
 
 -- src/lib.rt:114:9
 get-requires : tie.Need-get-requires

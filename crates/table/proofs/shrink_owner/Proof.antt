@@ -10,15 +10,6 @@ use Rattle.table.proofs.ShrinkSlot.{kind-slot, owner-eight, owner-kept,
 use borrow.Author.Needs.{needs}
 use Rattle.table.proofs.shrink_owner.Statement.{statement}
 use Rattle.table.proofs.shrink_owner.Tie as tie
-use Rattle.table.proofs.shrink_owner.Reads as reads
-use Rattle.table.proofs.shrink_owner.Lts as lts
-use Rattle.record.proofs.Record.shrink_approximate.Reads as shrink-approximate-reads
-use Rattle.slots.proofs.disown.Reads as disown-reads
-use Rattle.slots.proofs.get.Reads as get-reads
-use Rattle.slots.proofs.hand_over.Reads as hand-over-reads
-use Rattle.slots.proofs.left_to.Reads as left-to-reads
-use Rattle.slots.proofs.put.Reads as put-reads
-use Rattle.slots.proofs.remove.Reads as remove-reads
 
 -- src/lib.rt:90:9
 get-requires : tie.Need-get-requires

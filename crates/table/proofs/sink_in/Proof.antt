@@ -4,12 +4,6 @@ use Rattle.table.proofs.Sinking.{sink-between, sink-there, raise-length
 use borrow.Author.Needs.{needs}
 use Rattle.table.proofs.sink_in.Statement.{statement}
 use Rattle.table.proofs.sink_in.Tie as tie
-use Rattle.table.proofs.sink_in.Reads as reads
-use Rattle.table.proofs.sink_in.Lts as lts
-use Rattle.slots.proofs.insert.Reads as insert-reads
-use Rattle.slots.proofs.raise.Reads as raise-reads
-use Rattle.table.proofs.meets_at.Reads as meets-at-reads
-use Rattle.table.proofs.place_of.Reads as place-of-reads
 
 -- src/lib.rt:182:8
 meets-at-requires : tie.Need-meets-at-requires

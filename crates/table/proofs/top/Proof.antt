@@ -3,10 +3,6 @@ use Rattle.table.proofs.Sinking.{top-put}
 use borrow.Author.Needs.{needs}
 use Rattle.table.proofs.top.Statement.{statement}
 use Rattle.table.proofs.top.Tie as tie
-use Rattle.table.proofs.top.Reads as reads
-use Rattle.table.proofs.top.Lts as lts
-use Rattle.slots.proofs.insert.Reads as insert-reads
-use Rattle.table.proofs.place_of.Reads as place-of-reads
 
 -- src/lib.rt:247:9
 place-of-requires : tie.Need-place-of-requires

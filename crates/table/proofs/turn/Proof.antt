@@ -6,12 +6,6 @@ use Rattle.table.proofs.TurnSlot.{turn-beside, turn-gone, turn-left, tu
 use borrow.Author.Needs.{needs}
 use Rattle.table.proofs.turn.Statement.{statement}
 use Rattle.table.proofs.turn.Tie as tie
-use Rattle.table.proofs.turn.Reads as reads
-use Rattle.table.proofs.turn.Lts as lts
-use Rattle.record.proofs.Record.meets.Reads as meets-reads
-use Rattle.slots.proofs.get.Reads as get-reads
-use Rattle.table.proofs.lower.Reads as lower-reads
-use Rattle.table.proofs.shrink_at.Reads as shrink-at-reads
 
 -- src/lib.rt:209:9
 get-requires : tie.Need-get-requires

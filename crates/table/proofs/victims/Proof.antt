@@ -7,10 +7,6 @@ use Rattle.table.proofs.Steps.{shown-room}
 use Rattle.table.proofs.Turning.{Turning, turning-start, turning-ready, turning-turn, turning-end}
 use Rattle.table.proofs.victims.Statement.{statement}
 use Rattle.table.proofs.victims.Tie as tie
-use Rattle.table.proofs.victims.Reads as reads
-use Rattle.table.proofs.victims.Lts as lts
-use Rattle.table.proofs.place_of.Reads as place-of-reads
-use Rattle.table.proofs.turn.Reads as turn-reads
 
 abbrev Inv-loop : tie.InvT-loop
 Inv-loop b₀ r mask k₀ i₀ b k i = (q : Parted b₀ mask r) → Turning (asRecord r (q .owned)) (q .top) (q .rest) b k i

@@ -10,11 +10,6 @@ use Rattle.learn.proofs.AccurateAt.{single-at, strided-at, stride-small
 use borrow.Author.Needs.{needs}
 use Rattle.learn.proofs.runs.accurate.Statement.{statement}
 use Rattle.learn.proofs.runs.accurate.Tie as tie
-use Rattle.learn.proofs.runs.accurate.Reads as reads
-use Rattle.learn.proofs.runs.accurate.Lts as lts
-use Rattle.learn.proofs.runs.ended.Reads as ended-reads
-use Rattle.learn.proofs.runs.less.Reads as less-reads
-use Rattle.learn.proofs.runs.stride_end.Reads as stride-end-reads
 
 -- a page of the group stands at the next place, one stride on
 goes : (c : tie.Else1) → Goes (c .before .before .before .before .before .args .written .now) (getD (c .before .before .before .before .before .args .written .now) (c .before .before .before .before .before .args .i) 0 / 256) (c .before .before .before .before .before .args .i + 1)

@@ -5,9 +5,6 @@ use mir.Facts.{toZ-ofZ}
 use borrow.Author.Needs.{needs}
 use Rattle.learn.proofs.runs.approximate.Statement.{statement}
 use Rattle.learn.proofs.runs.approximate.Tie as tie
-use Rattle.learn.proofs.runs.approximate.Reads as reads
-use Rattle.learn.proofs.runs.approximate.Lts as lts
-use Rattle.learn.proofs.runs.less.Reads as less-reads
 
 mul-s : tie.Need-mul-s
 mul-s c = search needs

@@ -8,10 +8,6 @@ use Rattle.learn.proofs.AheadOf.{ahead-none, ahead-some}
 use Rattle.learn.proofs.Searching.{from, from-start, from-turn, from-full, from-end}
 use Rattle.learn.proofs.runs.best.Statement.{statement}
 use Rattle.learn.proofs.runs.best.Tie as tie
-use Rattle.learn.proofs.runs.best.Reads as reads
-use Rattle.learn.proofs.runs.best.Lts as lts
-use Rattle.learn.proofs.runs.better.Reads as better-reads
-use Rattle.learn.proofs.runs.ended.Reads as ended-reads
 
 abbrev Inv-loop : tie.InvT-loop
 Inv-loop written i b k f₀ a₀ f a = (a ≤ 257) × (1 ≤ f .size) × (f .size ≤ length written) × (from (asBounds b) written i (asFit f₀) 0 ≡ from (asBounds b) written i (asFit f) a)

@@ -3,11 +3,6 @@ use Rattle.learn.proofs.Bettering.{keeps-shorter, keeps-first, takes-se
 use borrow.Author.Needs.{needs}
 use Rattle.learn.proofs.runs.better.Statement.{statement}
 use Rattle.learn.proofs.runs.better.Tie as tie
-use Rattle.learn.proofs.runs.better.Reads as reads
-use Rattle.learn.proofs.runs.better.Lts as lts
-use Rattle.learn.proofs.runs.common.Reads as common-reads
-use Rattle.learn.proofs.runs.reach.Reads as reach-reads
-use Rattle.learn.proofs.runs.suiting.Reads as suiting-reads
 
 add-j : tie.Need-add-j
 add-j c = search needs

@@ -2,10 +2,6 @@ use Rattle.learn.proofs.Fits.{common-is}
 use borrow.Author.Needs.{needs}
 use Rattle.learn.proofs.runs.common.Statement.{statement}
 use Rattle.learn.proofs.runs.common.Tie as tie
-use Rattle.learn.proofs.runs.common.Reads as reads
-use Rattle.learn.proofs.runs.common.Lts as lts
-use Rattle.learn.proofs.runs.greater.Reads as greater-reads
-use Rattle.learn.proofs.runs.smaller.Reads as smaller-reads
 
 greater-requires : tie.Need-greater-requires
 greater-requires c κs = search needs

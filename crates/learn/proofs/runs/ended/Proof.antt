@@ -2,8 +2,6 @@ use Rattle.learn.proofs.AheadOf.{ended-at, ended-past}
 use borrow.Author.Needs.{needs}
 use Rattle.learn.proofs.runs.ended.Statement.{statement}
 use Rattle.learn.proofs.runs.ended.Tie as tie
-use Rattle.learn.proofs.runs.ended.Reads as reads
-use Rattle.learn.proofs.runs.ended.Lts as lts
 
 mul-result : tie.Need-mul-result
 mul-result c = search needs

@@ -3,9 +3,6 @@ use Rattle.learn.proofs.Storing.{stored-none}
 use borrow.Author.Needs.{needs}
 use Rattle.learn.proofs.runs.learn.Statement.{statement}
 use Rattle.learn.proofs.runs.learn.Tie as tie
-use Rattle.learn.proofs.runs.learn.Reads as reads
-use Rattle.learn.proofs.runs.learn.Lts as lts
-use Rattle.learn.proofs.runs.store_all.Reads as store-all-reads
 
 cast-n : tie.Need-cast-n
 cast-n c = search needs

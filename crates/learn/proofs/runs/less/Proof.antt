@@ -4,8 +4,6 @@ use Rattle.learn.proofs.Differences.{less-is, less-fits}
 use borrow.Author.Needs.{needs}
 use Rattle.learn.proofs.runs.less.Statement.{statement}
 use Rattle.learn.proofs.runs.less.Tie as tie
-use Rattle.learn.proofs.runs.less.Reads as reads
-use Rattle.learn.proofs.runs.less.Lts as lts
 
 cast-result : tie.Need-cast-result
 cast-result c = search needs

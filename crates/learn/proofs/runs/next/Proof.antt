@@ -6,11 +6,6 @@ use Rattle.learn.proofs.Choosing.{takes-exact, stays-accurate, makes, g
 use borrow.Author.Needs.{needs}
 use Rattle.learn.proofs.runs.next.Statement.{statement}
 use Rattle.learn.proofs.runs.next.Tie as tie
-use Rattle.learn.proofs.runs.next.Reads as reads
-use Rattle.learn.proofs.runs.next.Lts as lts
-use Rattle.learn.proofs.runs.accurate.Reads as accurate-reads
-use Rattle.learn.proofs.runs.approximate.Reads as approximate-reads
-use Rattle.learn.proofs.runs.best.Reads as best-reads
 
 -- the page at the place is one of the flush's
 on : (c : tie.Start) → c .args .b .first + c .args .i ≤ c .args .b .last

@@ -9,11 +9,6 @@ use Rattle.learn.proofs.AheadOf.{Goes, ahead-some, ahead-none}
 use Rattle.learn.proofs.Reaching.{reached, reach-starts, reach-ends, reach-breaks, reach-goes}
 use Rattle.learn.proofs.runs.reach.Statement.{statement}
 use Rattle.learn.proofs.runs.reach.Tie as tie
-use Rattle.learn.proofs.runs.reach.Reads as reads
-use Rattle.learn.proofs.runs.reach.Lts as lts
-use Rattle.learn.proofs.runs.common.Reads as common-reads
-use Rattle.learn.proofs.runs.ended.Reads as ended-reads
-use Rattle.learn.proofs.runs.suiting.Reads as suiting-reads
 
 abbrev Inv-loop : tie.InvT-loop
 Inv-loop written i b a k found₀ j₀ found j = (i < j) × (j ≤ length written) × (fitAt (asBounds b) written i a ≡ reached (asBounds b) a written k i (asIntercepts found) j)

@@ -9,10 +9,6 @@ use Rattle.learn.proofs.RunHeld.{Held, held}
 use Rattle.learn.proofs.Storing.{Stored, stored-start, stored-next, stored-all}
 use Rattle.learn.proofs.runs.store_all.Statement.{statement}
 use Rattle.learn.proofs.runs.store_all.Tie as tie
-use Rattle.learn.proofs.runs.store_all.Reads as reads
-use Rattle.learn.proofs.runs.store_all.Lts as lts
-use Rattle.learn.proofs.runs.next.Reads as next-reads
-use Rattle.record.proofs.Record.encode.Reads as encode-reads
 
 abbrev Inv-loop : tie.InvT-loop
 Inv-loop written b out₀ taken₀ i₀ n₀ out taken i n = Stored (asBounds b) written out₀ taken₀ out taken i n

@@ -10,9 +10,6 @@ use Rattle.learn.proofs.AheadOf.{Goes, ahead-some, ahead-none}
 use Rattle.learn.proofs.Strides.{onward, stride-ends, stride-goes, stride-breaks}
 use Rattle.learn.proofs.runs.stride_end.Statement.{statement}
 use Rattle.learn.proofs.runs.stride_end.Tie as tie
-use Rattle.learn.proofs.runs.stride_end.Reads as reads
-use Rattle.learn.proofs.runs.stride_end.Lts as lts
-use Rattle.learn.proofs.runs.ended.Reads as ended-reads
 
 abbrev Inv-loop : tie.InvT-loop
 Inv-loop written i d k j₀ j = (i ≤ j) × (j < length written) × (getD written j 0 / 256 ≡ k) × (onward written k d i ≡ (j - i) + onward written k d j)

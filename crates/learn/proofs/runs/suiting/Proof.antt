@@ -3,10 +3,6 @@ use Rattle.learn.proofs.Fits.{product-small, suiting-is}
 use borrow.Author.Needs.{needs}
 use Rattle.learn.proofs.runs.suiting.Statement.{statement}
 use Rattle.learn.proofs.runs.suiting.Tie as tie
-use Rattle.learn.proofs.runs.suiting.Reads as reads
-use Rattle.learn.proofs.runs.suiting.Lts as lts
-use Rattle.learn.proofs.runs.lowest.Reads as lowest-reads
-use Rattle.learn.proofs.runs.smaller.Reads as smaller-reads
 
 mul-up : tie.Need-mul-up
 mul-up c = omega (arith, product-small (c .args .a) (c .args .o) (c .pre .4) (c .pre .5))
