@@ -12,6 +12,8 @@ use Rattle.model.specs.Lists.{all, store}
 use Rattle.model.specs.Device.{Device, groupCount, groupLength}
 use Rattle.model.specs.State.{State, withGroups, groupAt}
 use Rattle.model.specs.Sound.{soundGroup, soundGroups, soundState}
+use Rattle.model.proofs.Bools.{and-l}
+use Rattle.model.proofs.SoundGroups.{group-sound}
 use Rattle.bytes.proofs.Stores.{lent-back}
 use Rattle.group.specs.Reading.{encodes, readGroup}
 use Rattle.group.proofs.Soundness.{sound-encodes}
@@ -81,3 +83,8 @@ module _ (d : Device) (s : State) (h : Shaped d s) (t : Bool) (e : t ≡ soundGr
   pub counts-decide : t ≡ true → (u : Bool) → u ≡ all (λ c. leb c (d .B)) (s .counts) → u ≡ soundState s
   unfolding soundState
   counts-decide f u q = rw (h .numbers, ← e, f, q)
+
+-- each group of a sound state is sound
+pub sound-at : (d : Device) (s : State) → Shaped d s → soundState s ≡ true → (k : ℕ) → soundGroup (d .N) k (groupAt s k) ≡ true
+unfolding soundState groupAt
+sound-at d s h e k = group-sound (d .N) k (s .groups) (ap (λ (c : Device). soundGroups (c .N) 0 (s .groups)) (sym (h .numbers)) ∙ and-l _ _ e)

@@ -12,3 +12,8 @@ pub mod Erasing
 pub mod Formatting
 pub mod Seeking
 pub mod Looking
+pub mod GroupChecks
+pub mod Compacting
+pub mod Comparing
+pub mod Agreeing
+pub mod Listing

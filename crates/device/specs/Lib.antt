@@ -4,3 +4,5 @@ pub mod Shaped
 pub mod Formatting
 pub mod Answers
 pub mod Opening
+pub mod Agreeing
+pub mod Listing

@@ -15,6 +15,12 @@ pub enum Formatted {
     Refused(Refusal),
 }
 
+// First page and count.
+pub enum Flushed {
+    Done(u32, u32),
+    Refused(Refusal),
+}
+
 // The page, the predicted page and how many levels were looked at; or the number of levels.
 pub enum Lookup {
     Found(u32, u32, u32),
@@ -28,4 +34,28 @@ pub enum Sought {
     At(u32, u32, u32),
     Nowhere(u32),
     Unnamed,
+}
+
+// First page, count and number erased.
+pub enum Collected {
+    Done(u32, u32, u32),
+    Refused(Refusal),
+}
+
+// The records left.
+pub enum Compacted {
+    Done(u32),
+    Refused(Refusal),
+}
+
+pub enum Agreed {
+    Yes,
+    No,
+    Refused(Refusal),
+}
+
+// The records that were written.
+pub enum Listed {
+    Done(u32),
+    Refused(Refusal),
 }

@@ -10,9 +10,10 @@ ghost use mathlib.Core.Bool.{true};
 ghost use mathlib.Core.Option.{Option·map};
 ghost use Prim.Native.Nat.{_<_};
 ghost use Rattle.model.specs.Device.{groupCount};
-ghost use Rattle.model.specs.Levels.{listing, holder, levelsTo};
+ghost use Rattle.model.specs.Levels.{listing, holder, levelsTo, recordCount, compact};
 ghost use Rattle.model.specs.State.{groupAt};
 ghost use Rattle.model.specs.Sound.{soundGroup, soundGroups, soundState};
+ghost use Rattle.calls.specs.Compaction.{compactGroup};
 ghost use Rattle.spare.specs.Read.{numbersOf};
 ghost use Rattle.record.specs.Read.{bare};
 ghost use Rattle.group.specs.Answers.{foundOf, lookedOf};
@@ -39,6 +40,18 @@ pub fn find(state: &[u8], d: Numbers, k: u32, o: u32) -> Hit
     let a = group_place(d, k);
     let e = group_end(d, k);
     group::find(&state[a..e], o)
+}
+
+// Compacts group k, which is sound; how many records are left.
+pub fn compact_group(state: &mut [u8], d: Numbers, k: u32) -> u32
+    requires { ⌜ Shaped (numbersOf d) (readState (now state)) × (k < groupCount (numbersOf d))
+        × (soundGroup (d .n) k (groupAt (readState (now state)) k) ≡ true) ⌝ }
+    ensures { λ r. ⌜ (readState (now (state .exit)) ≡ compactGroup k (readState (now (state .entry))))
+        × (r ≡ recordCount (compact (groupAt (readState (now (state .entry))) k))) ⌝ }
+{
+    let a = group_place(d, k);
+    let e = group_end(d, k);
+    compaction::compact(&mut state[a..e])
 }
 
 // Whether all groups are sound.

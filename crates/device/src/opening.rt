@@ -8,7 +8,7 @@ use spare::Numbers;
 ghost use Rattle.device.specs.Reading.{readState};
 ghost use Rattle.device.specs.Opening.{Opens};
 
-// The device numbers, or the refusal: 1 or 2.
+// The device numbers, or the refusal.
 pub enum Opened {
     Device(Numbers),
     Refused(Refusal),
