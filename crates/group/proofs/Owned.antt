@@ -29,7 +29,7 @@ asc-tail x y l m e a f o h = go (elem-cons o y m (f o (elem-there o x l h)))
     go (inl q) = absurd (let z : ⊥ = omega (arith, asc-elem a o h) in z)
     go (inr q) = q
 
-asc-same : {p q : ℕ} (l m : List ℕ) → Asc p l → Asc q m → ((o : ℕ) → elem o l ≡ true → elem o m ≡ true) → ((o : ℕ) → elem o m ≡ true → elem o l ≡ true) → l ≡ m
+pub asc-same : {p q : ℕ} (l m : List ℕ) → Asc p l → Asc q m → ((o : ℕ) → elem o l ≡ true → elem o m ≡ true) → ((o : ℕ) → elem o m ≡ true → elem o l ≡ true) → l ≡ m
 asc-same [] [] a c f g = refl
 asc-same [] (y ∷ m) a c f g = no-elem y (g y (elem-here y m))
 asc-same (x ∷ l) [] a c f g = no-elem x (f x (elem-here x l))

@@ -1,0 +1,5 @@
+pub mod Batches
+pub mod Sorted
+pub mod Written
+pub mod Checking
+pub mod Flushing

@@ -1,0 +1,126 @@
+// Flush: a batch goes to the lowest-numbered free block.
+pub mod writing;
+
+use crate::writing::write_block;
+use batch::sort::sort_batch;
+use device::answers::Flushed;
+use device::answers::Refusal;
+use device::counts::free_count;
+use device::counts::lowest_free;
+use device::groups::sound;
+use device::opening::Opened;
+use device::opening::check_state;
+use spare::Numbers;
+ghost use mathlib.Core.Path.{_≡_};
+ghost use mathlib.Core.Bool.{true, _||_};
+ghost use mathlib.Core.List.{[]};
+ghost use Prim.Native.Nat.{_<_, _≤_};
+ghost use lib.Dec.{ltb};
+ghost use lib.ListN.{length};
+ghost use Rattle.model.specs.Lists.{all, store};
+ghost use Rattle.model.specs.Device.{spareLength};
+ghost use Rattle.model.specs.Spare.{programBlock};
+ghost use Rattle.model.specs.Learning.{sorted, logicals, sources};
+ghost use Rattle.model.specs.Sound.{isEmpty, soundState};
+ghost use Rattle.calls.specs.Flush.{writeState};
+ghost use Rattle.calls.specs.History.{flushCall, lend};
+ghost use Rattle.spare.specs.Read.{numbersOf};
+ghost use Rattle.device.specs.Reading.{readState};
+ghost use Rattle.device.specs.Shaped.{Shaped};
+ghost use Rattle.device.specs.Answers.{flushAnswer};
+ghost use Rattle.device.specs.Ran.{Ran};
+ghost use Rattle.flush.specs.Clearing.{Clears};
+
+// Whether the size is wrong: "5, batch empty or longer than B".
+fn wrong_size(batch: &[u32], b: u32) -> bool
+    ensures { λ r. ⌜ r ≡ (isEmpty (now (batch .entry)) || ltb b (length (now (batch .entry)))) ⌝ }
+{
+    if batch.len() == 0 {
+        return true;
+    }
+    (b as usize) < batch.len()
+}
+
+// Whether every logical page is below n: "4, a logical page is N or more".
+fn in_range(batch: &[u32], n: u32) -> bool
+    ensures { λ r. ⌜ r ≡ all (λ x. ltb x n) (now (batch .entry)) ⌝ }
+{
+    let mut i = 0;
+    while i < batch.len() {
+        if n <= batch[i] {
+            return false;
+        }
+        i += 1;
+    }
+    true
+}
+
+// The device numbers where the flush is not refused, else its refusal: 1, 2, 3, 5, 4, 6, the first that applies.
+fn check(state: &[u8], spare: &[u32], batch: &[u32], plan: &[u32]) -> Opened
+    ensures { λ r. ⌜ Clears (now (batch .entry))
+        (lend (readState (now (state .entry))) (now (spare .entry)) (now (plan .entry)) []) r ⌝ }
+{
+    let opened = check_state(state);
+    let d = match opened {
+        Opened::Device(d) => d,
+        Opened::Refused(r) => return Opened::Refused(r),
+    };
+    if spare.len() != spare::spare_len(d) {
+        return Opened::Refused(Refusal::BadLength);
+    }
+    if plan.len() != d.b as usize {
+        return Opened::Refused(Refusal::BadLength);
+    }
+    if !sound(state, d) {
+        return Opened::Refused(Refusal::NotSound);
+    }
+    if wrong_size(batch, d.b) {
+        return Opened::Refused(Refusal::BadBatch);
+    }
+    if !in_range(batch, d.n) {
+        return Opened::Refused(Refusal::OutOfRange);
+    }
+    if free_count(state, d) < 2 {
+        return Opened::Refused(Refusal::NoFreeBlock);
+    }
+    Opened::Device(d)
+}
+
+// Block k takes the batch, sorted; how many pages it takes.
+fn write_batch(
+    state: &mut [u8],
+    spare: &mut [u32],
+    plan: &mut [u32],
+    d: Numbers,
+    k: u32,
+    batch: &[u32],
+) -> u32
+    requires { ⌜ Shaped (numbersOf d) (readState (now state)) × (soundState (readState (now state)) ≡ true)
+        × (length (now spare) ≡ spareLength (numbersOf d)) × (length (now plan) ≡ d .b) × (k < d .m) ⌝ }
+    requires { ⌜ (length (now batch) ≤ d .b) × (all (λ x. ltb x (d .n)) (now batch) ≡ true) ⌝ }
+    ensures { λ r. ⌜ r ≡ length (sorted (now (batch .entry))) ⌝ }
+    ensures { λ _. ⌜ readState (now (state .exit)) ≡ writeState (sorted (now (batch .entry))) k (readState (now (state .entry))) ⌝ }
+    ensures { λ _. ⌜ now (spare .exit) ≡ programBlock (numbersOf d) (logicals (sorted (now (batch .entry)))) k (now (spare .entry)) ⌝ }
+    ensures { λ _. ⌜ now (plan .exit) ≡ store (now (plan .entry)) 0 (sources (sorted (now (batch .entry)))) ⌝ }
+{
+    let mut pages = [0u32; 256];
+    let mut sources = [0u32; 256];
+    let n = sort_batch(batch, &mut pages, &mut sources);
+    write_block(state, spare, plan, d, k, &pages[..n], &sources[..n]);
+    n as u32
+}
+
+// Document 01's flush.
+pub fn flush(state: &mut [u8], spare: &mut [u32], batch: &[u32], plan: &mut [u32]) -> Flushed
+    ensures { λ r. ⌜ Ran (flushCall (now (batch .entry)) (now (plan .entry))) (now (state .entry)) (now (spare .entry)) (flushAnswer r)
+        (now (state .exit)) (now (spare .exit)) (now (plan .exit)) [] ⌝ }
+{
+    let opened = check(state, spare, batch, plan);
+    let d = match opened {
+        Opened::Device(d) => d,
+        Opened::Refused(r) => return Flushed::Refused(r),
+    };
+    let k = lowest_free(state, d);
+    let n = write_batch(state, spare, plan, d, k, batch);
+    Flushed::Done(k * d.b, n)
+}

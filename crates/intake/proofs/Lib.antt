@@ -1,0 +1,12 @@
+pub mod Marks
+pub mod Places
+pub mod Listed
+pub mod Inserting
+pub mod Putting
+pub mod Compacting
+pub mod Lending
+pub mod Ending
+pub mod Sharing
+pub mod Turns
+pub mod Offsets
+pub mod Learned

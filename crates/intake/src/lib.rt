@@ -1,0 +1,185 @@
+// The learned records are handed to the table: each group takes in its own of them.
+use device::numbers::group_end;
+use device::numbers::group_place;
+use spare::Numbers;
+ghost use mathlib.Core.Path.{_≡_};
+ghost use mathlib.Core.List.{[], _∷_};
+ghost use mathlib.Core.Bool.{true, false};
+ghost use Prim.Native.Nat.{ℕ, _+_, _<_, _≤_};
+ghost use lib.Dec.{ltb};
+ghost use lib.ListN.{length, set};
+ghost use Rattle.model.specs.Lists.{all, elem, ascending};
+ghost use Rattle.model.specs.Device.{groupCount};
+ghost use Rattle.model.specs.Learning.{learn};
+ghost use Rattle.model.specs.Levels.{recordCount, insert, insertAll, takeIn, takeInAll};
+ghost use Rattle.model.specs.State.{withGroups, groupAt};
+ghost use Rattle.model.specs.Sound.{soundRecord, soundGroup, soundGroups};
+ghost use Rattle.spare.specs.Read.{numbersOf};
+ghost use Rattle.record.specs.Scan.{masked};
+ghost use Rattle.group.specs.Reading.{readGroup};
+ghost use Rattle.device.specs.Reading.{readState};
+ghost use Rattle.device.specs.Shaped.{Shaped};
+ghost use Rattle.intake.specs.Handed.{place, offsets, learnedAt, runsFrom, recordsFrom, Counted, Handed, Ends};
+ghost use Rattle.intake.specs.Taking.{Fits, Learned, Took};
+
+// A place in what is handed over: a run, and the first of its pages in the batch.
+struct Place {
+    run: usize,
+    page: usize,
+}
+
+// The mask, empty before, gets the offsets of n pages of the batch, from place `at` on.
+fn mark(mask: &mut [u8], written: &[u32], at: usize, n: usize)
+    requires { ⌜ (length (now mask) ≡ 256) × ((o : ℕ) → o < 256 → masked (now mask) o ≡ false) × (at + n ≤ length (now written)) ⌝ }
+    ensures { λ _. ⌜ ((o : ℕ) → o < 256 → masked (now (mask .exit)) o ≡ elem o (offsets (now (written .entry)) at n)) ⌝ }
+{
+    let end = at + n;
+    let mut i = at;
+    while i < end {
+        let o = written[i] % 256;
+        mask[o as usize] = 1;
+        i += 1;
+    }
+}
+
+// The run at a place is inserted into a group.
+fn put_in(b: &mut [u8], written: &[u32], out: &[u8], taken: &[u32], p: Place)
+    requires { ⌜ Handed (now written) (now out) (now taken) (p .run + 1) × (p .page ≡ place (now taken) (p .run)) ⌝ }
+    requires { ⌜ Fits (now b) (learnedAt (now written) (now out) (now taken) (p .run) ∷ []) × (recordCount (readGroup (now b)) < 512) ⌝ }
+    ensures { λ _. ⌜ readGroup (now (b .exit))
+        ≡ insert (learnedAt (now (written .entry)) (now (out .entry)) (now (taken .entry)) (p .run)) (readGroup (now (b .entry))) ⌝ }
+{
+    let i = p.run;
+    let r = record::decode(out, 8 * i);
+    let n = taken[i] as usize;
+    let mut mask = [0u8; 256];
+    mark(&mut mask, written, p.page, n);
+    table::insert(b, r, &mask);
+}
+
+// The n runs from a place on are inserted into a group, one after the other.
+fn put_in_all(b: &mut [u8], written: &[u32], out: &[u8], taken: &[u32], p: Place, n: usize)
+    requires { ⌜ Handed (now written) (now out) (now taken) (p .run + n) × (p .page ≡ place (now taken) (p .run)) ⌝ }
+    requires { ⌜ Fits (now b) (recordsFrom (now written) (now out) (now taken) (p .run) n) × (recordCount (readGroup (now b)) + n ≤ 512) ⌝ }
+    ensures { λ _. ⌜ readGroup (now (b .exit))
+        ≡ insertAll (recordsFrom (now (written .entry)) (now (out .entry)) (now (taken .entry)) (p .run) n) (readGroup (now (b .entry))) ⌝ }
+{
+    let end = p.run + n;
+    let mut run = p.run;
+    let mut page = p.page;
+    while run < end {
+        put_in(b, written, out, taken, Place { run, page });
+        page += taken[run] as usize;
+        run += 1;
+    }
+}
+
+// A group takes in the n runs from a place on: if its records and these are together more than 512, it is compacted first.
+fn take_in(b: &mut [u8], written: &[u32], out: &[u8], taken: &[u32], p: Place, n: usize)
+    requires { ⌜ Handed (now written) (now out) (now taken) (p .run + n) × (p .page ≡ place (now taken) (p .run)) × (n ≤ 256) ⌝ }
+    requires { ⌜ Fits (now b) (recordsFrom (now written) (now out) (now taken) (p .run) n) ⌝ }
+    ensures { λ _. ⌜ readGroup (now (b .exit))
+        ≡ takeIn (recordsFrom (now (written .entry)) (now (out .entry)) (now (taken .entry)) (p .run) n) (readGroup (now (b .entry))) ⌝ }
+{
+    let used = group::record_count(b) as usize;
+    if 512 < used + n {
+        compaction::compact(b);
+        put_in_all(b, written, out, taken, p, n);
+        return;
+    }
+    put_in_all(b, written, out, taken, p, n);
+}
+
+// Group k of the state takes in the n runs from a place on.
+fn take_in_group(
+    state: &mut [u8],
+    d: Numbers,
+    k: u32,
+    written: &[u32],
+    out: &[u8],
+    taken: &[u32],
+    p: Place,
+    n: usize,
+)
+    requires { ⌜ Shaped (numbersOf d) (readState (now state)) × (k < groupCount (numbersOf d))
+        × (soundGroup (d .n) k (groupAt (readState (now state)) k) ≡ true) ⌝ }
+    requires { ⌜ Handed (now written) (now out) (now taken) (p .run + n) × (p .page ≡ place (now taken) (p .run)) × (n ≤ 256)
+        × (all (soundRecord (d .n) k) (recordsFrom (now written) (now out) (now taken) (p .run) n) ≡ true) ⌝ }
+    ensures { λ _. ⌜ readState (now (state .exit))
+        ≡ withGroups (set (readState (now (state .entry)) .groups) k
+        (takeIn (recordsFrom (now (written .entry)) (now (out .entry)) (now (taken .entry)) (p .run) n) (groupAt (readState (now (state .entry))) k)))
+        (readState (now (state .entry))) ⌝ }
+{
+    let a = group_place(d, k);
+    let e = group_end(d, k);
+    take_in(&mut state[a..e], written, out, taken, p, n);
+}
+
+// The place of the first run from p on, of n runs in all, that doesn't lie in group k.
+fn end_of(written: &[u32], taken: &[u32], n: usize, p: Place, k: u32) -> Place
+    requires { ⌜ Counted (now written) (now taken) n × (p .run ≤ n) × (p .page ≡ place (now taken) (p .run)) ⌝ }
+    ensures { λ r. ⌜ Ends (now (written .entry)) (now (taken .entry)) n k (p .run) (r .run) × (r .page ≡ place (now (taken .entry)) (r .run)) ⌝ }
+{
+    let mut run = p.run;
+    let mut page = p.page;
+    while run < n {
+        if written[page] / 256 != k {
+            return Place { run, page };
+        }
+        page += taken[run] as usize;
+        run += 1;
+    }
+    Place { run, page }
+}
+
+// The group of the run at a place takes in its own, the runs from there on that lie in it. Answers the place behind them.
+fn take_in_next(
+    state: &mut [u8],
+    d: Numbers,
+    written: &[u32],
+    out: &[u8],
+    taken: &[u32],
+    n: usize,
+    p: Place,
+) -> Place
+    requires { ⌜ Shaped (numbersOf d) (readState (now state)) × (soundGroups (d .n) 0 (readState (now state) .groups) ≡ true) ⌝ }
+    requires { ⌜ Learned (d .n) (now written) (now out) (now taken) n × (p .run < n) × (p .page ≡ place (now taken) (p .run)) ⌝ }
+    ensures { λ r. ⌜ (p .run < r .run) × (r .run ≤ n) × (r .page ≡ place (now (taken .entry)) (r .run))
+        × Took (d .n) (now (written .entry)) (now (out .entry)) (now (taken .entry)) n (readState (now (state .entry))) (readState (now (state .exit))) (p .run) (r .run) ⌝ }
+{
+    let page = p.page;
+    let k = written[page] / 256;
+    let e = end_of(written, taken, n, p, k);
+    let own = e.run - p.run;
+    take_in_group(state, d, k, written, out, taken, p, own);
+    e
+}
+
+// Each group takes in its own of the n runs.
+fn take_in_runs(state: &mut [u8], d: Numbers, written: &[u32], out: &[u8], taken: &[u32], n: usize)
+    requires { ⌜ Shaped (numbersOf d) (readState (now state)) × (soundGroups (d .n) 0 (readState (now state) .groups) ≡ true) ⌝ }
+    requires { ⌜ Learned (d .n) (now written) (now out) (now taken) n ⌝ }
+    ensures { λ _. ⌜ readState (now (state .exit))
+        ≡ withGroups (takeInAll 0 (runsFrom (now (written .entry)) (now (out .entry)) (now (taken .entry)) 0 n) (readState (now (state .entry)) .groups))
+        (readState (now (state .entry))) ⌝ }
+{
+    let mut p = Place { run: 0, page: 0 };
+    while p.run < n {
+        p = take_in_next(state, d, written, out, taken, n, p);
+    }
+}
+
+// Each group takes in its own of the records that are learned from a sorted batch, which lies on consecutive pages from `first` on.
+pub fn take_in_all(state: &mut [u8], d: Numbers, written: &[u32], first: u32)
+    requires { ⌜ Shaped (numbersOf d) (readState (now state)) × (soundGroups (d .n) 0 (readState (now state) .groups) ≡ true) ⌝ }
+    requires { ⌜ (ascending (now written) ≡ true) × (all (λ x. ltb x (d .n)) (now written) ≡ true) × (length (now written) ≤ 256)
+        × (first + length (now written) ≤ 2097152) ⌝ }
+    ensures { λ _. ⌜ readState (now (state .exit))
+        ≡ withGroups (takeInAll 0 (learn (d .g) first (now (written .entry))) (readState (now (state .entry)) .groups))
+        (readState (now (state .entry))) ⌝ }
+{
+    let mut out = [0u8; 2048];
+    let mut taken = [0u32; 256];
+    let n = learn::runs::learn(written, first, d.g, &mut out, &mut taken);
+    take_in_runs(state, d, written, &out, &taken, n);
+}
