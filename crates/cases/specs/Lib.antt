@@ -1,3 +1,4 @@
 pub mod Shown
 pub mod Opens
 pub mod Table
+pub mod Traps
