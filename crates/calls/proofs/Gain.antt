@@ -1,23 +1,24 @@
 -- With one free block a collection takes at least two blocks: the valid pages are few enough. Assumes nothing.
 use mathlib.Core.Path.{_≡_, refl, sym, _∙_, ap}
 use mathlib.Core.List.{List, [], _∷_, map}
-use mathlib.Core.Option.{Option, some}
+use mathlib.Core.Option.{Option}
 use mathlib.Core.Logic.{_⊎_, inl, inr}
 use mathlib.Core.Bool.{true≢false, true, false}
 use Prim.Native.Nat.{ℕ, suc, _+_, _*_, _-_, _≤_, _<_}
 use native.Mathlib.Omega.{arith}
-use lib.Dec.{leb}
+use lib.Dec.{ltb, leb}
 use lib.ListN.{length, length-append, length-map}
-use borrow.Author.Tests.{le-leb}
+use borrow.Author.Tests.{le-leb, eqb-true}
 use Rattle.model.specs.Lists.{elem, distinct}
 use Rattle.model.specs.Spare.{middle}
 use Rattle.model.specs.State.{State, freeBlocks, usedBlocks}
-use Rattle.model.proofs.Bools.{is-false}
+use Rattle.model.proofs.Bools.{and-r, is-false}
 use Rattle.model.proofs.Lists.{elem-cons, elem-here, elem-there, no-elem, asc-select}
 use Rattle.model.proofs.Counting.{sum, two-fit, pigeonhole, asc-distinct, distinct-head, distinct-tail, distinct-cons, distinct-append}
 use Rattle.model.proofs.Blocks.{used-asc, free-and-used}
 use Rattle.model.proofs.Limits.{Limits, limits}
-use Rattle.calls.specs.Collection.{Used, valid, usedBlock, ranked, takeWhile, victims, blocksOf, pagesOf, noGain}
+use Rattle.calls.specs.Lookup.{Sought, at, nowhere, unnamed, seek}
+use Rattle.calls.specs.Collection.{Used, gives, valid, usedBlock, ranked, takeWhile, victims, blocksOf, pagesOf, noGain}
 use Rattle.calls.proofs.Ranking.{sizes, Each, both, Ordered, first, ranked-ordered, ranked-sum, ranked-length}
 use Rattle.calls.proofs.Invariant.{Inv}
 use Rattle.calls.proofs.Found.{valid-lies}
@@ -52,22 +53,15 @@ two-taken B (u ∷ w ∷ l) (first f (first g o)) h k =
     let e : length (length (u .pages) ∷ length (w .pages) ∷ sizes l) ≡ length (u ∷ w ∷ l) = omega arith in
     take-two B u w l (two-fit (length (u .pages)) (length (w .pages)) B (sizes l) (f (length (w .pages)) (elem-here (length (w .pages)) (sizes l))) g (rw e k))
 
-module _ (s : State) (spare : List ℕ) where
-  own-distinct : (l : List Used) → Each (Own s spare) l → distinct (blocksOf l) ≡ true → distinct (pagesOf l) ≡ true
-  unfolding pagesOf blocksOf distinct
-  own-distinct [] e d = refl
-  own-distinct (u ∷ l) (both q e) d =
-      distinct-append (u .pages) (pagesOf l) (ap distinct q ∙ asc-distinct (asc-select (valid s spare) (s .device .B) _)) (own-distinct l e (distinct-tail (u .block) (blocksOf l) d))
-      (λ p a b. true≢false (sym (own-only s spare l e p b .1) ∙ ap (λ (k : ℕ). elem k (blocksOf l)) (own-page s spare u q p a .1) ∙ distinct-head (u .block) (blocksOf l) d))
-
 module _ (f : ℕ → ℕ) where
   -- p is one of the numbers, and gives x
-  record From (ps : List ℕ) (x : ℕ) : Type 0 where
-    page : ℕ
-    among : elem page ps ≡ true
-    gives : f page ≡ x
+  pub record From (ps : List ℕ) (x : ℕ) : Type 0 where
+    pub page : ℕ
+    pub among : elem page ps ≡ true
+    pub gives : f page ≡ x
 
-  from : (ps : List ℕ) (x : ℕ) → elem x (map f ps) ≡ true → From ps x
+  -- What is in a mapped list comes from a number of the list.
+  pub from : (ps : List ℕ) (x : ℕ) → elem x (map f ps) ≡ true → From ps x
   from [] x h = no-elem x h
   from (p ∷ ps) x h = go (elem-cons x (f p) (map f ps) h) (λ j. from ps x j)
     where
@@ -75,12 +69,33 @@ module _ (f : ℕ → ℕ) where
       go (inl e) ih = record { page = p; among = elem-here p ps; gives = sym e }
       go (inr j) ih = let q = ih j in record { page = q .page; among = elem-there (q .page) p ps (q .among); gives = q .gives }
 
-module _ (s : State) (spare : List ℕ) (image : ℕ → List ℕ) (place : ℕ → Option ℕ) (v : Inv s spare image place) where
+-- a lookup gives one page
+one-given : (p q : ℕ) (t : Sought) → gives p t ≡ true → gives q t ≡ true → p ≡ q
+unfolding gives
+one-given p q (at r a n) e f = eqb-true p r e ∙ sym (eqb-true q r f)
+one-given p q (nowhere n) e f = absurd (true≢false (sym e))
+one-given p q unnamed e f = absurd (true≢false (sym e))
+
+module _ (s : State) (spare : List ℕ) where
+  -- Of blocks with their own valid pages, none twice, no page comes twice.
+  pub own-distinct : (l : List Used) → Each (Own s spare) l → distinct (blocksOf l) ≡ true → distinct (pagesOf l) ≡ true
+  unfolding pagesOf blocksOf distinct
+  own-distinct [] e d = refl
+  own-distinct (u ∷ l) (both q e) d =
+      distinct-append (u .pages) (pagesOf l) (ap distinct q ∙ asc-distinct (asc-select (valid s spare) (s .device .B) _)) (own-distinct l e (distinct-tail (u .block) (blocksOf l) d))
+      (λ p a b. true≢false (sym (own-only s spare l e p b .1) ∙ ap (λ (k : ℕ). elem k (blocksOf l)) (own-page s spare u q p a .1) ∙ distinct-head (u .block) (blocksOf l) d))
+
   abbrev named : ℕ → ℕ
   named = middle (s .device) spare
 
-  -- valid pages have distinct logical pages
-  named-distinct : (ps : List ℕ) → ((p : ℕ) → elem p ps ≡ true → valid s spare p ≡ true) → distinct ps ≡ true → distinct (map named ps) ≡ true
+  -- two valid pages of one logical page are one
+  valid-once : (p q : ℕ) → valid s spare p ≡ true → valid s spare q ≡ true → named q ≡ named p → q ≡ p
+  unfolding valid
+  valid-once p q a b e =
+      one-given q p (seek s spare (named p)) (rw (← e) (and-r (ltb (named q) (s .device .N)) _ b)) (and-r (ltb (named p) (s .device .N)) _ a)
+
+  -- Valid pages have distinct logical pages.
+  pub named-distinct : (ps : List ℕ) → ((p : ℕ) → elem p ps ≡ true → valid s spare p ≡ true) → distinct ps ≡ true → distinct (map (middle (s .device) spare) ps) ≡ true
   unfolding distinct
   named-distinct [] t d = refl
   named-distinct (p ∷ ps) t d =
@@ -88,19 +103,17 @@ module _ (s : State) (spare : List ℕ) (image : ℕ → List ℕ) (place : ℕ 
     where
       out : From named ps (named p) → ⊥
       out r =
-          let a : place (named p) ≡ some p = valid-lies s spare image place v p (t p (elem-here p ps)) .1 in
-          let b : place (named (r .page)) ≡ some (r .page) = valid-lies s spare image place v (r .page) (t (r .page) (elem-there (r .page) p ps (r .among))) .1 in
-          let c : some (r .page) ≡ some p = sym b ∙ ap place (r .gives) ∙ a in
-          let e : r .page ≡ p = cc in
+          let e : r .page ≡ p = valid-once p (r .page) (t p (elem-here p ps)) (t (r .page) (elem-there (r .page) p ps (r .among))) (r .gives) in
           true≢false (sym (r .among) ∙ ap (λ (q : ℕ). elem q ps) e ∙ distinct-head p ps d)
 
+module _ (s : State) (spare : List ℕ) (image : ℕ → List ℕ) (place : ℕ → Option ℕ) (v : Inv s spare image place) where
   -- there are no more valid pages than logical pages
   valid-few : (ps : List ℕ) → ((p : ℕ) → elem p ps ≡ true → valid s spare p ≡ true) → distinct ps ≡ true → length ps ≤ s .device .N
   valid-few ps t d =
-      let n : length (map named ps) ≤ s .device .N = pigeonhole (s .device .N) (map named ps) (named-distinct ps t d) (λ x h. below x (from named ps x h)) in
-      omega (arith, length-map ps named)
+      let n : length (map (named s spare) ps) ≤ s .device .N = pigeonhole (s .device .N) (map (named s spare) ps) (named-distinct s spare ps t d) (λ x h. below x (from (named s spare) ps x h)) in
+      omega (arith, length-map ps (named s spare))
     where
-      below : (x : ℕ) → From named ps x → x < s .device .N
+      below : (x : ℕ) → From (named s spare) ps x → x < s .device .N
       below x r = rw (r .gives) at (valid-lies s spare image place v (r .page) (t (r .page) (r .among)) .0)
 
   -- With one free block there is something to gain: a collection always helps.

@@ -77,7 +77,8 @@ module _ (s : State) (spare : List ℕ) where
   abbrev order : List Used
   order = ranked (map (usedBlock s spare) (usedBlocks 0 (s .counts)))
 
-  victims-own : Each Own (victims s spare)
+  -- A victim is listed with its own valid pages.
+  pub victims-own : Each Own (victims s spare)
   unfolding victims
   victims-own = taken-each Own (s .device .B) order (ranked-each Own _ (used-own (usedBlocks 0 (s .counts))))
 

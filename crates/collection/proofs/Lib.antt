@@ -1,0 +1,10 @@
+pub mod Chosen
+pub mod Entries
+pub mod Sizes
+pub mod Choosing
+pub mod Judging
+pub mod Gathering
+pub mod Taken
+pub mod Moved
+pub mod Clearing
+pub mod Ending

@@ -1,0 +1,86 @@
+-- The moves are written, then the blocks are erased, then listed.
+use native.Mathlib.Omega.{arith}
+use mathlib.Core.Path.{ap, _∙_}
+use mathlib.Core.List.{List}
+use Prim.Native.Nat.{ℕ, _≤_}
+use lib.Dec.{ltb}
+use lib.ListN.{length}
+use borrow.Author.Needs.{needs}
+use Rattle.model.specs.Lists.{all}
+use Rattle.model.proofs.Limits.{limits}
+use Rattle.device.specs.Reading.{readState}
+use Rattle.device.specs.Answers.{collectAnswer}
+use Rattle.device.proofs.Shaping.{length-counts}
+use Rattle.collection.proofs.Taken.{blocks-in, blocks-few}
+use Rattle.collection.proofs.Moved.{write-ready}
+use Rattle.collection.proofs.Clearing.{written-shape, collection-left, collection-answer}
+use Rattle.collection.proofs.collect.carry_out.Statement.{statement}
+use Rattle.collection.proofs.collect.carry_out.Tie as tie
+
+write-moves-requires : tie.Need-write-moves-requires
+write-moves-requires c κs = search needs
+
+erase-blocks-requires : tie.Need-erase-blocks-requires
+erase-blocks-requires c κs =
+    let pre = c .before .before .before .before .before .before .before .before .before .before .before .before .before .before .before .before .before .before .before .pre in
+    let shape = pre .0 .0 .shape in
+    let made = c .before .before .before .before .before .before .before .before .write-moves in (
+      written-shape _ _ _ _ _ _ _ _ shape (made .ensures .1),
+      made .kept .1 .0 ∙ pre .0 .0 .fits,
+      ap (all (λ k. ltb k (c .before .before .before .before .before .before .before .before .before .before .before .before .before .before .before .before .before .before .before .args .d .m))) (pre .1 .2) ∙ blocks-in _ _ _ (shape .numbers) (shape .limits) (length-counts _ _ shape),
+    )
+
+-- no more blocks are taken than there are
+few : (c : tie.Start) → length (c .args .blocks .now) ≤ c .args .d .m
+few c =
+    let shape = c .pre .0 .0 .shape in
+    omega (arith, ap (λ (l : List ℕ). length l) (c .pre .1 .2), blocks-few (readState (c .args .state .now)) (c .args .spare .now) _ (shape .numbers) (shape .limits) (length-counts _ _ shape))
+
+list-erased-requires : tie.Need-list-erased-requires
+list-erased-requires c κs = omega (arith, few (c .before .before .before .before .before .before .before .before .before .before .before .before .before .before .before .before .before .before .before .before .before .before .before .before .before), c .before .before .before .before .before .before .before .before .before .before .before .before .before .before .before .before .before .before .before .before .before .before .before .before .before .pre .0 .2)
+
+cast-t24 : tie.Need-cast-t24
+cast-t24 c =
+    let pre = c .before .before .before .before .before .before .before .before .before .before .before .before .before .before .before .before .before .before .before .before .before .before .before .before .before .before .before .before .pre in
+    omega (arith, write-ready _ _ _ (pre .0 .0) _ _ (pre .1 .0) (pre .1 .1) .2, limits _ (pre .0 .0 .shape .limits) .most-B)
+
+cast-t26 : tie.Need-cast-t26
+cast-t26 c = omega (arith, few (c .before .before .before .before .before .before .before .before .before .before .before .before .before .before .before .before .before .before .before .before .before .before .before .before .before .before .before .before), limits _ (c .before .before .before .before .before .before .before .before .before .before .before .before .before .before .before .before .before .before .before .before .before .before .before .before .before .before .before .before .pre .0 .0 .shape .limits) .most-M)
+
+same-length : tie.Need-same-length
+same-length c = search needs
+
+same-length-2 : tie.Need-same-length-2
+same-length-2 c = search needs
+
+same-length-3 : tie.Need-same-length-3
+same-length-3 c = search needs
+
+same-length-4 : tie.Need-same-length-4
+same-length-4 c = search needs
+
+returns : tie.Need-returns
+unfolding collectAnswer
+returns c =
+    let pre = c .before .before .before .before .before .before .before .before .before .before .before .before .before .before .before .before .before .before .before .before .before .before .before .before .before .before .before .before .pre in
+    let moved = c .before .before .before .before .before .before .before .before .before .before .before .before .before .before .before .before .before .write-moves .ensures in
+    let cleared = c .before .before .before .before .before .before .before .before .erase-blocks .ensures in
+    let listed = c .before .before .list-erased .ensures in (
+      collection-answer _ _ _ _ _ _ _ _ _ _ _ (moved .1) (pre .1 .2) cleared listed _ _ (moved .0) (pre .1 .0),
+      collection-left _ _ _ _ _ _ _ _ _ _ _ (moved .1) (pre .1 .2) cleared listed,
+    )
+
+pub carry-out-spec : {M : Type 1} → statement M
+carry-out-spec =
+    tie.close
+    (tie.spec
+    write-moves-requires
+    erase-blocks-requires
+    list-erased-requires
+    cast-t24
+    cast-t26
+    same-length
+    same-length-2
+    same-length-3
+    same-length-4
+    returns)

@@ -1,0 +1,59 @@
+-- Nothing to move, or the lowest free block takes the moves.
+use native.Mathlib.Omega.{arith}
+use Prim.Native.Nat.{_<_}
+use borrow.Author.Needs.{needs}
+use Rattle.device.proofs.Shaping.{length-counts}
+use Rattle.collection.proofs.Judging.{block-fits}
+use Rattle.collection.proofs.Moved.{write-ready, none-moved, some-moved, lowest-in}
+use Rattle.collection.proofs.collect.write_moves.Statement.{statement}
+use Rattle.collection.proofs.collect.write_moves.Tie as tie
+
+returns : tie.Need-returns
+returns c =
+    let pre = c .before .before .before .before .before .before .pre in
+    let none = none-moved _ _ _ (pre .0 .0) _ _ (pre .1 .0) (pre .1 .1) (c .if1 .taken) in
+    (none .0, λ erased. none .1 _)
+
+lowest-free-requires : tie.Need-lowest-free-requires
+lowest-free-requires c κs = search needs
+
+-- the block that is written is one of the device's
+inside : (c : tie.After-lowest-free) → c .lowest-free .result < c .before .before .before .before .before .before .before .before .args .d .m
+inside c = lowest-in _ _ _ (c .before .before .before .before .before .before .before .before .pre .0 .0) (length-counts _ _ (c .before .before .before .before .before .before .before .before .pre .0 .0 .shape)) _ (c .lowest-free .ensures)
+
+write-block-requires : tie.Need-write-block-requires
+write-block-requires c κs =
+    let pre = c .before .before .before .before .before .before .before .before .before .before .before .pre in
+    let passed = pre .0 .0 in
+    ((passed .shape, passed .sound, passed .fits, pre .0 .1, inside (c .before .before .before)), write-ready _ _ _ passed _ _ (pre .1 .0) (pre .1 .1))
+
+mul-result : tie.Need-mul-result
+mul-result c = omega (arith, block-fits _ _ _ (c .before .before .before .before .before .before .before .before .before .before .before .before .before .before .before .before .before .before .before .pre .0 .0) _ (inside (c .before .before .before .before .before .before .before .before .before .before .before)))
+
+same-length : tie.Need-same-length
+same-length c = search needs
+
+same-length-2 : tie.Need-same-length-2
+same-length-2 c = search needs
+
+same-length-3 : tie.Need-same-length-3
+same-length-3 c = search needs
+
+returns-2 : tie.Need-returns-2
+returns-2 c =
+    let pre = c .before .before .before .before .before .before .before .before .before .before .before .before .before .before .before .before .before .before .before .pre in
+    let made = c .before .before .before .before .before .before .before .write-block .ensures in
+    some-moved _ _ _ (pre .0 .0) _ _ (pre .1 .0) (pre .1 .1) (c .before .before .before .before .before .before .before .before .before .before .before .before .before .if1 .left) _ (c .before .before .before .before .before .before .before .before .before .before .before .lowest-free .ensures) _ _ _ _ (made .0) (made .1 .0) (made .1 .1)
+
+pub write-moves-spec : {M : Type 1} → statement M
+write-moves-spec =
+    tie.close
+    (tie.spec
+    returns
+    lowest-free-requires
+    write-block-requires
+    mul-result
+    same-length
+    same-length-2
+    same-length-3
+    returns-2)

@@ -1,0 +1,79 @@
+-- What the blocks from i on leave of the state and the spare area now is what all leave of those at the start.
+use native.Mathlib.Omega.{arith}
+use mathlib.Core.Path.{_≡_, refl, _∙_}
+use Prim.Native.Nat.{_-_, _≤_}
+use lib.Dec.{ltb}
+use lib.ListN.{length, drop}
+use borrow.Author.Tests.{ltb-true}
+use Rattle.batch.proofs.SortSpread.{all-getD}
+use Rattle.spare.specs.Read.{numbersOf}
+use Rattle.device.specs.Reading.{readState}
+use Rattle.device.specs.Shaped.{Shaped}
+use Rattle.collection.proofs.Clearing.{Clearing, erased-shape, cleared-next, cleared-end}
+use Rattle.collection.proofs.erasing.erase_blocks.Statement.{statement}
+use Rattle.collection.proofs.erasing.erase_blocks.Tie as tie
+
+abbrev Inv-loop : tie.InvT-loop
+Inv-loop state₀ spare₀ d blocks i₀ state spare i =
+    (i ≤ length blocks) × (length state ≡ length state₀) × (length spare ≡ length spare₀) × Shaped (numbersOf d) (readState state)
+    × Clearing blocks (readState state₀) spare₀ (drop i blocks) (readState state) spare
+
+abbrev μ-loop : tie.MeasureT-loop
+μ-loop state₀ spare₀ d blocks i₀ state spare i = length blocks - i
+
+loop-holds : tie.Need-loop-holds Inv-loop μ-loop
+loop-holds c = (omega arith, refl, refl, c .before .before .before .pre .0, λ plan erased. refl)
+
+mul-erase-block : tie.Need-mul-erase-block Inv-loop μ-loop
+mul-erase-block c = omega arith
+
+shared-slice-read-erase-block : tie.Need-shared-slice-read-erase-block Inv-loop μ-loop
+shared-slice-read-erase-block c = omega arith
+
+erase-block-requires : tie.Need-erase-block-requires Inv-loop μ-loop
+erase-block-requires c κs =
+    let inv = c .before .before .before .before .loop .inv in
+    (inv .3, inv .2 ∙ c .before .before .before .before .before .before .before .before .pre .1, ltb-true _ _ (all-getD (λ k. ltb k (c .before .before .before .before .before .before .before .before .args .d .m)) _ _ (c .before .before .before .before .before .before .before .before .pre .2) (omega arith)))
+
+add-i : tie.Need-add-i Inv-loop μ-loop
+add-i c = omega arith
+
+loop-less : tie.Need-loop-less Inv-loop μ-loop
+loop-less c = omega arith
+
+loop-again : tie.Need-loop-again Inv-loop μ-loop
+loop-again c =
+    let inv = c .before .before .before .before .before .before .before .before .before .loop .inv in
+    let made = c .before .before .before .before .erase-block in (
+      omega arith,
+      omega (arith, made .kept .0),
+      omega (arith, made .kept .1 .0),
+      erased-shape _ _ _ _ _ _ (inv .3) (made .ensures),
+      cleared-next _ _ _ _ _ _ (inv .4) (c .before .before .before .before .before .before .before .before .loop-test .taken) _ _ (made .ensures),
+    )
+
+same-length : tie.Need-same-length Inv-loop μ-loop
+same-length c = omega arith
+
+same-length-2 : tie.Need-same-length-2 Inv-loop μ-loop
+same-length-2 c = omega arith
+
+returns : tie.Need-returns Inv-loop μ-loop
+returns c = cleared-end _ _ _ _ _ _ (c .before .loop .inv .4) (c .loop-test .left)
+
+pub erase-blocks-spec : {M : Type 1} → statement M
+erase-blocks-spec =
+    tie.close
+    (tie.spec
+    Inv-loop
+    μ-loop
+    loop-holds
+    mul-erase-block
+    shared-slice-read-erase-block
+    erase-block-requires
+    add-i
+    loop-less
+    loop-again
+    same-length
+    same-length-2
+    returns)

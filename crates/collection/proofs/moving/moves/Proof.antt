@@ -1,0 +1,46 @@
+-- The gathered pages fit and are ready to be sorted; sorted they are the moves.
+use native.Mathlib.Omega.{arith}
+use mathlib.Core.Path.{ap, _∙_}
+use lib.Dec.{ltb}
+use borrow.Author.Needs.{needs}
+use Rattle.model.specs.Lists.{all}
+use Rattle.device.specs.Reading.{readState}
+use Rattle.device.proofs.Shaping.{length-counts}
+use Rattle.collection.proofs.Taken.{blocks-in}
+use Rattle.collection.proofs.Moved.{gathered-few, sort-ready, sort-done}
+use Rattle.collection.proofs.moving.moves.Statement.{statement}
+use Rattle.collection.proofs.moving.moves.Tie as tie
+
+gather-requires : tie.Need-gather-requires
+gather-requires c κs =
+    let start = c .before .before .before .before .before .before .before in
+    let shape = start .pre .0 .shape in
+    let few = gathered-few _ _ _ (start .pre .0) _ (start .pre .1) in (
+      start .pre .0,
+      ap (all (λ k. ltb k (start .args .d .m))) (start .pre .1) ∙ blocks-in (readState (start .args .state .now)) (start .args .spare .now) _ (shape .numbers) (shape .limits) (length-counts _ _ shape),
+      omega (arith, few, start .pre .2),
+      omega (arith, few, start .pre .3),
+    )
+
+sort-writes-requires : tie.Need-sort-writes-requires
+sort-writes-requires c κs =
+    let pre = c .before .before .before .before .before .before .before .before .before .before .before .before .before .before .pre in
+    let made = c .before .before .before .before .before .before .gather .ensures in
+    sort-ready _ _ _ (pre .0) (length-counts _ _ (pre .0 .shape)) _ _ _ _ _ _ (pre .1) (made .0) (made .1 .0) (made .1 .1) (pre .2) (pre .3)
+
+same-length : tie.Need-same-length
+same-length c = search needs
+
+same-length-2 : tie.Need-same-length-2
+same-length-2 c = search needs
+
+returns : tie.Need-returns
+returns c =
+    let pre = c .before .before .before .before .before .before .before .before .before .before .before .before .before .before .before .before .before .before .before .pre in
+    let made = c .before .before .before .before .before .before .before .before .before .before .before .gather .ensures in
+    let sorted = c .before .before .before .before .sort-writes .ensures in
+    sort-done _ _ _ (pre .0) (length-counts _ _ (pre .0 .shape)) _ _ _ _ _ _ (pre .1) (made .0) (made .1 .0) (made .1 .1) (pre .2) (pre .3) _ _ _ (sorted .0) (sorted .1 .0) (sorted .1 .1)
+
+pub moves-spec : {M : Type 1} → statement M
+moves-spec =
+    tie.close (tie.spec gather-requires sort-writes-requires same-length same-length-2 returns)

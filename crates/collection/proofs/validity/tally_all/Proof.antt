@@ -1,0 +1,71 @@
+-- What is left to store are the tallies of the blocks from k on.
+use native.Mathlib.Omega.{arith}
+use mathlib.Core.Path.{_≡_, refl}
+use Prim.Native.Nat.{_-_, _≤_}
+use lib.ListN.{length, length-set}
+use Rattle.model.specs.Lists.{store}
+use Rattle.batch.proofs.SortStores.{stored-on, stored-all}
+use Rattle.device.specs.Reading.{readState}
+use Rattle.device.proofs.Places.{small}
+use Rattle.device.proofs.Shaping.{length-counts}
+use Rattle.collection.specs.Tally.{tallyOf}
+use Rattle.collection.proofs.Judging.{tallies, tallies-next, tallies-end}
+use Rattle.collection.proofs.validity.tally_all.Statement.{statement}
+use Rattle.collection.proofs.validity.tally_all.Tie as tie
+
+abbrev Inv-loop : tie.InvT-loop
+Inv-loop state spare d tally₀ m k₀ tally k =
+    (k ≤ d .m) × (length tally ≡ length tally₀) × (store tally₀ 0 (tallyOf (readState state) spare) ≡ store tally k (tallies (readState state) spare k))
+
+abbrev μ-loop : tie.MeasureT-loop
+μ-loop state spare d tally₀ m k₀ tally k = d .m - k
+
+loop-holds : tie.Need-loop-holds Inv-loop μ-loop
+unfolding tallyOf tallies
+loop-holds c = (omega arith, refl, refl)
+
+tally-block-requires : tie.Need-tally-block-requires Inv-loop μ-loop
+tally-block-requires c κs = (c .before .before .before .before .before .pre .0, c .loop-test .taken)
+
+cast-tally : tie.Need-cast-tally Inv-loop μ-loop
+cast-tally c = omega arith
+
+mul-tally : tie.Need-mul-tally Inv-loop μ-loop
+mul-tally c = omega (arith, small _ (c .before .before .before .before .before .before .pre .0 .shape .limits) .blocks)
+
+slice-write-tally : tie.Need-slice-write-tally Inv-loop μ-loop
+slice-write-tally c = omega (arith, c .before .before .before .before .before .before .pre .1)
+
+add-k : tie.Need-add-k Inv-loop μ-loop
+add-k c = omega (arith, small _ (c .before .before .before .before .before .before .pre .0 .shape .limits) .blocks)
+
+loop-less : tie.Need-loop-less Inv-loop μ-loop
+loop-less c = omega arith
+
+loop-again : tie.Need-loop-again Inv-loop μ-loop
+loop-again c =
+    let next = tallies-next _ _ _ _ (omega (arith, c .before .loop-test .taken, length-counts _ _ (c .before .before .before .before .before .before .pre .0 .shape))) (c .tally-block .ensures) in
+    (omega arith, simp length-set (omega arith), stored-on _ _ _ _ _ _ (c .before .before .loop .inv .2) next)
+
+same-length : tie.Need-same-length Inv-loop μ-loop
+same-length c = omega arith
+
+returns : tie.Need-returns Inv-loop μ-loop
+returns c = stored-all _ _ _ _ (c .before .loop .inv .2) (tallies-end _ _ _ (omega (arith, c .loop-test .left, length-counts _ _ (c .before .before .before .before .before .pre .0 .shape))))
+
+pub tally-all-spec : {M : Type 1} → statement M
+tally-all-spec =
+    tie.close
+    (tie.spec
+    Inv-loop
+    μ-loop
+    loop-holds
+    tally-block-requires
+    cast-tally
+    mul-tally
+    slice-write-tally
+    add-k
+    loop-less
+    loop-again
+    same-length
+    returns)

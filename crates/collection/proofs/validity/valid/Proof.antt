@@ -1,0 +1,37 @@
+-- The middle entry is too high, or lookup of it gives no page, or one that is p or not.
+use native.Mathlib.Omega.{arith}
+use mathlib.Core.Path.{sym, ap, _∙_}
+use borrow.Author.Needs.{needs}
+use Rattle.device.specs.Answers.{soughtOf}
+use Rattle.collection.proofs.Judging.{group-fine, too-high, not-given, given-is}
+use Rattle.collection.proofs.validity.valid.Statement.{statement}
+use Rattle.collection.proofs.validity.valid.Tie as tie
+
+middle-requires : tie.Need-middle-requires
+middle-requires c κs = search needs
+
+returns : tie.Need-returns
+returns c = too-high _ _ _ (c .before .before .before .before .before .pre .0) _ _ (c .before .before .middle .ensures) (omega arith)
+
+seek-requires : tie.Need-seek-requires
+seek-requires c κs =
+    let passed = c .before .before .before .before .before .pre .0 in
+    (passed .shape, passed .fits, omega arith, group-fine _ _ _ passed _)
+
+enum-known-q : tie.Need-enum-known-q
+enum-known-q c = search needs
+
+returns-2 : tie.Need-returns-2
+returns-2 c =
+    not-given _ _ _ (c .before .before .before .before .before .before .before .pre .0) _ _ (c .before .before .before .before .middle .ensures) (c .before .before .if1 .left)
+    _ (c .before .seek .ensures) (c .match .keys2)
+
+returns-3 : tie.Need-returns-3
+unfolding soughtOf
+returns-3 c =
+    given-is _ _ _ (c .before .before .before .before .before .before .before .before .before .pre .0) _ _ (c .before .before .before .before .before .before .middle .ensures)
+    (c .before .before .before .before .if1 .left) _ _ _ (sym (ap soughtOf (c .before .q .given .1)) ∙ c .before .before .before .seek .ensures)
+
+pub valid-spec : {M : Type 1} → statement M
+valid-spec =
+    tie.close (tie.spec middle-requires returns seek-requires enum-known-q returns-2 returns-3)

@@ -1,0 +1,178 @@
+// Collection: its refusals before anything is written, then the moves, the erased blocks and their list.
+use crate::choose::choose;
+use crate::erasing::erase_blocks;
+use crate::erasing::list_erased;
+use crate::moving::moves;
+use crate::validity::tally_all;
+use device::answers::Collected;
+use device::answers::Refusal;
+use device::counts::free_count;
+use device::counts::lowest_free;
+use device::groups::sound;
+use device::opening::Opened;
+use device::opening::check_state;
+use flush::writing::write_block;
+use spare::Numbers;
+ghost use mathlib.Core.Path.{_≡_};
+ghost use mathlib.Core.Bool.{not, _&&_};
+ghost use mathlib.Core.List.{List};
+ghost use Prim.Native.Nat.{ℕ, _≤_};
+ghost use lib.Dec.{eqb};
+ghost use lib.ListN.{length};
+ghost use Rattle.model.specs.Lists.{store};
+ghost use Rattle.model.specs.Learning.{logicals, sources as sourcesOf};
+ghost use Rattle.model.specs.State.{freeBlocks};
+ghost use Rattle.model.specs.Sound.{isEmpty};
+ghost use Rattle.calls.specs.Collection.{Used, victims, blocksOf, pagesOf, noGain, moves as movesOf, moveAll, firstMoved, collectDone};
+ghost use Rattle.calls.specs.History.{collectCall, lend};
+ghost use Rattle.spare.specs.Read.{numbersOf};
+ghost use Rattle.device.specs.Reading.{readState};
+ghost use Rattle.device.specs.Shaped.{Shaped};
+ghost use Rattle.device.specs.Answers.{collectAnswer};
+ghost use Rattle.device.specs.Ran.{Ran};
+ghost use Rattle.collection.specs.Passed.{Passed, Admits};
+
+// The device numbers where document 01's 1, 2 and 3 don't apply, else the refusal.
+fn check(state: &[u8], spare: &[u32], plan: &[u32], erased: &[u32]) -> Opened
+    ensures { λ r. ⌜ Admits (lend (readState (now (state .entry))) (now (spare .entry)) (now (plan .entry)) (now (erased .entry))) r ⌝ }
+{
+    let opened = check_state(state);
+    let d = match opened {
+        Opened::Device(d) => d,
+        Opened::Refused(r) => return Opened::Refused(r),
+    };
+    if spare.len() != spare::spare_len(d) {
+        return Opened::Refused(Refusal::BadLength);
+    }
+    if plan.len() != d.b as usize {
+        return Opened::Refused(Refusal::BadLength);
+    }
+    if erased.len() != d.m as usize {
+        return Opened::Refused(Refusal::BadLength);
+    }
+    if !sound(state, d) {
+        return Opened::Refused(Refusal::NotSound);
+    }
+    Opened::Device(d)
+}
+
+// The blocks that are taken, in order; how many there are.
+fn taken(state: &[u8], spare: &[u32], d: Numbers, order: &mut [u32]) -> usize
+    requires { ⌜ Passed (numbersOf d) (readState (now state)) (now spare) × (4096 ≤ length (now order)) ⌝ }
+    ensures count { λ r. ⌜ r ≡ length (victims (readState (now (state .entry))) (now (spare .entry))) ⌝ }
+    ensures blocks { λ _. ⌜ now (order .exit) ≡ store (now (order .entry)) 0 (blocksOf (victims (readState (now (state .entry))) (now (spare .entry)))) ⌝ }
+{
+    let mut tally = [0u32; 4096];
+    let m = d.m as usize;
+    tally_all(state, spare, d, &mut tally);
+    choose(&tally[..m], d.b, order)
+}
+
+// Whether there is nothing to gain from c taken blocks with n valid pages: none is taken, or one with pages to move.
+fn no_gain(c: usize, n: usize) -> bool
+    ensures { λ r. ⌜ ((us : List Used) → c ≡ length us → n ≡ length (pagesOf us) → r ≡ noGain us) ⌝ }
+{
+    if c == 0 {
+        return true;
+    }
+    if 1 < c {
+        return false;
+    }
+    0 < n
+}
+
+// Whether n pages need a free block and none exists.
+fn no_block(state: &[u8], d: Numbers, n: usize) -> bool
+    requires { ⌜ Shaped (numbersOf d) (readState (now state)) ⌝ }
+    ensures { λ r. ⌜ r ≡ (not (eqb n 0) && isEmpty (freeBlocks 0 (readState (now (state .entry)) .counts))) ⌝ }
+{
+    if n == 0 {
+        return false;
+    }
+    free_count(state, d) == 0
+}
+
+// The moves are written to the lowest-numbered free block, if there are any; the first page.
+fn write_moves(
+    state: &mut [u8],
+    spare: &mut [u32],
+    plan: &mut [u32],
+    d: Numbers,
+    pages: &[u32],
+    sources: &[u32],
+) -> u32
+    requires { ⌜ Passed (numbersOf d) (readState (now state)) (now spare) × (length (now plan) ≡ d .b) ⌝ }
+    requires { ⌜ (now pages ≡ logicals (movesOf (readState (now state)) (now spare))) × (now sources ≡ sourcesOf (movesOf (readState (now state)) (now spare))) ⌝ }
+    ensures first { λ r. ⌜ r ≡ firstMoved (movesOf (readState (now (state .entry))) (now (spare .entry))) (readState (now (state .entry))) ⌝ }
+    ensures left { λ _. ⌜ ((erased : List ℕ) → lend (readState (now (state .exit))) (now (spare .exit)) (now (plan .exit)) erased
+        ≡ moveAll (movesOf (readState (now (state .entry))) (now (spare .entry))) (lend (readState (now (state .entry))) (now (spare .entry)) (now (plan .entry)) erased)) ⌝ }
+{
+    if pages.len() == 0 {
+        return 0;
+    }
+    let k = lowest_free(state, d);
+    write_block(state, spare, plan, d, k, pages, sources);
+    k * d.b
+}
+
+// The moves are written, the taken blocks erased and listed.
+fn carry_out(
+    state: &mut [u8],
+    spare: &mut [u32],
+    plan: &mut [u32],
+    erased: &mut [u32],
+    d: Numbers,
+    pages: &[u32],
+    sources: &[u32],
+    blocks: &[u32],
+) -> Collected
+    requires { ⌜ Passed (numbersOf d) (readState (now state)) (now spare) × (length (now plan) ≡ d .b) × (length (now erased) ≡ d .m) ⌝ }
+    requires { ⌜ (now pages ≡ logicals (movesOf (readState (now state)) (now spare))) × (now sources ≡ sourcesOf (movesOf (readState (now state)) (now spare)))
+        × (now blocks ≡ blocksOf (victims (readState (now state)) (now spare))) ⌝ }
+    ensures answer { λ r. ⌜ collectAnswer r ≡ collectDone (lend (readState (now (state .entry))) (now (spare .entry)) (now (plan .entry)) (now (erased .entry))) .answer ⌝ }
+    ensures left { λ _. ⌜ lend (readState (now (state .exit))) (now (spare .exit)) (now (plan .exit)) (now (erased .exit))
+        ≡ collectDone (lend (readState (now (state .entry))) (now (spare .entry)) (now (plan .entry)) (now (erased .entry))) .after ⌝ }
+{
+    let first = write_moves(state, spare, plan, d, pages, sources);
+    erase_blocks(state, spare, d, blocks);
+    list_erased(erased, blocks);
+    Collected::Done(first, pages.len() as u32, blocks.len() as u32)
+}
+
+// Document 01's collection.
+pub fn collect(
+    state: &mut [u8],
+    spare: &mut [u32],
+    plan: &mut [u32],
+    erased: &mut [u32],
+) -> Collected
+    ensures { λ r. ⌜ Ran (collectCall (now (plan .entry)) (now (erased .entry))) (now (state .entry)) (now (spare .entry)) (collectAnswer r)
+        (now (state .exit)) (now (spare .exit)) (now (plan .exit)) (now (erased .exit)) ⌝ }
+{
+    let checked = check(state, spare, plan, erased);
+    let d = match checked {
+        Opened::Device(d) => d,
+        Opened::Refused(r) => return Collected::Refused(r),
+    };
+    let mut order = [0u32; 4096];
+    let mut pages = [0u32; 256];
+    let mut sources = [0u32; 256];
+    let c = taken(state, spare, d, &mut order);
+    let n = moves(state, spare, d, &order[..c], &mut pages, &mut sources);
+    if no_gain(c, n) {
+        return Collected::Refused(Refusal::NothingToGain);
+    }
+    if no_block(state, d, n) {
+        return Collected::Refused(Refusal::NoFreeBlock);
+    }
+    carry_out(
+        state,
+        spare,
+        plan,
+        erased,
+        d,
+        &pages[..n],
+        &sources[..n],
+        &order[..c],
+    )
+}
