@@ -23,11 +23,11 @@ use Rattle.device.specs.declared.opening.Opened.{Opened}
 use Rattle.device.specs.declared.opening.Opened.the-variants as opened
 use Rattle.device.specs.Answers.{refusalOf}
 use Rattle.device.specs.Reading.{readState}
-use Rattle.device.specs.Shaped.{Shaped}
+use Rattle.device.specs.Shaped.{Shaped, Passed}
 use Rattle.device.specs.Opening.{stateChecks}
 use Rattle.device.specs.Ran.{Ran}
 use Rattle.device.proofs.Refusing.{stops, goes-on, right-length, wrong-length, ran-refused, numbers-there, state-right, not-opened}
-use Rattle.collection.specs.Passed.{Passed, Admits}
+use Rattle.collection.specs.Admitting.{Admits}
 
 -- What the checks before any counting answered: the device, or the refusal.
 pub admitted : (x : Lent) (o : Opened) (d : Numbers) → Admits x o → o ≡ opened.Device d

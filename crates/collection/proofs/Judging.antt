@@ -23,12 +23,11 @@ use Rattle.calls.specs.Lookup.{at, seek}
 use Rattle.calls.specs.Collection.{gives, valid, usedBlock}
 use Rattle.batch.proofs.SortStores.{drop-next}
 use Rattle.spare.proofs.Sizes.{page-small}
-use Rattle.device.specs.Shaped.{countOf}
+use Rattle.device.specs.Shaped.{countOf, Passed}
 use Rattle.device.specs.Answers.{soughtOf}
 use Rattle.device.specs.declared.answers.Sought.{Sought}
 use Rattle.device.specs.declared.answers.Sought.the-variants.{At, Nowhere, Unnamed}
 use Rattle.device.proofs.answers.Sought.{the-type}
-use Rattle.collection.specs.Passed.{Passed}
 use Rattle.collection.specs.Tally.{freeEntry, tallyAt, tallyFrom, tallyOf}
 
 -- a lookup that ends in another way than with a page gives none

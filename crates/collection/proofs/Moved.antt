@@ -25,7 +25,7 @@ use Rattle.calls.proofs.Gain.{from}
 use Rattle.batch.specs.Keys.{writes, rising}
 use Rattle.batch.proofs.SortDistinct.{distinct-length, writes-rising}
 use Rattle.device.proofs.Places.{small, pages-small}
-use Rattle.collection.specs.Passed.{Passed}
+use Rattle.device.specs.Shaped.{Passed}
 use Rattle.collection.proofs.Chosen.{chosen-fit}
 use Rattle.collection.proofs.Gathering.{gathered, front}
 use Rattle.collection.proofs.Taken.{all-of, taken-again, taken-named, taken-named-once, taken-in}

@@ -1,2 +1,2 @@
 pub mod Tally
-pub mod Passed
+pub mod Admitting

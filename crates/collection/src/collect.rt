@@ -27,10 +27,10 @@ ghost use Rattle.calls.specs.Collection.{Used, victims, blocksOf, pagesOf, noGa
 ghost use Rattle.calls.specs.History.{collectCall, lend};
 ghost use Rattle.spare.specs.Read.{numbersOf};
 ghost use Rattle.device.specs.Reading.{readState};
-ghost use Rattle.device.specs.Shaped.{Shaped};
+ghost use Rattle.device.specs.Shaped.{Shaped, Passed};
 ghost use Rattle.device.specs.Answers.{collectAnswer};
 ghost use Rattle.device.specs.Ran.{Ran};
-ghost use Rattle.collection.specs.Passed.{Passed, Admits};
+ghost use Rattle.collection.specs.Admitting.{Admits};
 
 // The device numbers where document 01's 1, 2 and 3 don't apply, else the refusal.
 fn check(state: &[u8], spare: &[u32], plan: &[u32], erased: &[u32]) -> Opened

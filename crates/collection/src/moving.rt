@@ -14,7 +14,7 @@ ghost use Rattle.model.specs.Learning.{logicals, sources as sourcesOf};
 ghost use Rattle.calls.specs.Collection.{usedBlock, pagesOf, victims, blocksOf, moves};
 ghost use Rattle.spare.specs.Read.{numbersOf};
 ghost use Rattle.device.specs.Reading.{readState};
-ghost use Rattle.collection.specs.Passed.{Passed};
+ghost use Rattle.device.specs.Shaped.{Passed};
 
 // Block k's valid pages and their logical pages are added behind the first n; how many there are then.
 fn gather_block(

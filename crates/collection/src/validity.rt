@@ -12,8 +12,7 @@ ghost use Rattle.model.specs.Device.{pages};
 ghost use Rattle.calls.specs.Collection.{valid, usedBlock};
 ghost use Rattle.spare.specs.Read.{numbersOf};
 ghost use Rattle.device.specs.Reading.{readState};
-ghost use Rattle.device.specs.Shaped.{countOf};
-ghost use Rattle.collection.specs.Passed.{Passed};
+ghost use Rattle.device.specs.Shaped.{countOf, Passed};
 ghost use Rattle.collection.specs.Tally.{tallyAt, tallyOf};
 
 // Whether page p is valid: its middle entry is below N and lookup of that gives this page.

@@ -22,10 +22,10 @@ use Rattle.spare.specs.declared.Numbers.{Numbers}
 use Rattle.device.specs.declared.answers.Refusal as code
 use Rattle.device.specs.declared.opening.Opened.{Opened}
 use Rattle.device.specs.declared.opening.Opened.the-variants as opened
-use Rattle.device.specs.Shaped.{Shaped}
+use Rattle.device.specs.Shaped.{Shaped, Passed}
 use Rattle.device.specs.Answers.{refusalOf}
 use Rattle.device.specs.Opening as opening
-use Rattle.device.specs.Agreeing.{Passed, Checks}
+use Rattle.device.specs.Agreeing.{Checks}
 use Rattle.device.specs.Ran.{Ran}
 use Rattle.device.proofs.Refusing.{none-some, stops, goes-on, right-length, wrong-length, numbers-there, state-right, not-opened}
 use Rattle.device.proofs.Handing.{sound-at}

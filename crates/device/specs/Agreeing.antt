@@ -2,26 +2,15 @@
 use mathlib.Core.Path.{_≡_}
 use mathlib.Core.List.{List}
 use mathlib.Core.Option.{some}
-use mathlib.Core.Bool.{true}
 use Prim.Native.Nat.{ℕ}
-use lib.ListN.{length}
-use Rattle.model.specs.Device.{Device, spareLength}
 use Rattle.model.specs.State.{State}
-use Rattle.model.specs.Sound.{soundState}
 use Rattle.calls.specs.Refusals.{firstRefusal}
 use Rattle.calls.specs.Agreement.{stateChecks}
 use Rattle.spare.specs.Read.{numbersOf}
 use Rattle.device.specs.declared.opening.Opened.{Opened}
 use Rattle.device.specs.declared.opening.Opened.the-variants as opened
-use Rattle.device.specs.Shaped.{Shaped}
+use Rattle.device.specs.Shaped.{Passed}
 use Rattle.device.specs.Answers.{refusalOf}
-
--- a state with its spare area that none of them refuses: its device numbers are d, both have the lengths that these give, and it
--- is sound
-pub record Passed (d : Device) (s : State) (spare : List ℕ) : Type 0 where
-  pub shape : Shaped d s
-  pub fits : length spare ≡ spareLength d
-  pub sound : soundState s ≡ true
 
 -- device numbers are given where none applies, else the first that does
 unfoldable pub Checks : State → List ℕ → Opened → Type 0

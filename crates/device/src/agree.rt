@@ -15,8 +15,9 @@ ghost use Rattle.calls.specs.Agreement.{allNamed};
 ghost use Rattle.calls.specs.History.{agreeCall};
 ghost use Rattle.spare.specs.Read.{numbersOf};
 ghost use Rattle.device.specs.Reading.{readState};
+ghost use Rattle.device.specs.Shaped.{Passed};
 ghost use Rattle.device.specs.Answers.{agreeAnswer};
-ghost use Rattle.device.specs.Agreeing.{Passed, Checks};
+ghost use Rattle.device.specs.Agreeing.{Checks};
 ghost use Rattle.device.specs.Ran.{Ran};
 
 // The device numbers of a sound state with its spare area, or the refusal: 1, 2 or 3.

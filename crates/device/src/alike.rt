@@ -7,8 +7,8 @@ ghost use Rattle.calls.specs.Lookup.{seek};
 ghost use Rattle.calls.specs.Agreement.{isNowhere, isNamed, alike, eachBelow};
 ghost use Rattle.spare.specs.Read.{numbersOf};
 ghost use Rattle.device.specs.Reading.{readState};
+ghost use Rattle.device.specs.Shaped.{Passed};
 ghost use Rattle.device.specs.Answers.{soughtOf};
-ghost use Rattle.device.specs.Agreeing.{Passed};
 
 // Whether a lookup found no record.
 fn is_nowhere(sought: Sought) -> bool

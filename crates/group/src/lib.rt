@@ -112,7 +112,7 @@ pub fn find(b: &[u8], o: u32) -> Hit
 }
 
 // Whether the record's four numbers are a sound one's, in group k of n pages.
-fn shaped(r: Record, n: u32, k: u32) -> bool
+pub fn shaped(r: Record, n: u32, k: u32) -> bool
     requires { ⌜ InEight r × (k ≤ 4096) ⌝ }
     ensures { λ t. ⌜ t ≡ shaped n k r ⌝ }
 {

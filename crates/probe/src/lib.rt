@@ -1,5 +1,7 @@
 // Inner functions for conformance tests and benchmarks, as a static library. What a function requires, the caller outside has to
 // see to: rust/probe-sys tests it before each call.
+pub mod groups;
+
 ghost use mathlib.Core.Path.{_≡_};
 ghost use mathlib.Core.Bool.{true};
 ghost use Prim.Native.Nat.{_+_, _*_, _≤_};

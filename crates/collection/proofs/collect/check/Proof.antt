@@ -10,7 +10,7 @@ use Rattle.device.specs.Reading.{readState}
 use Rattle.device.specs.Shaped.{Shaped}
 use Rattle.device.specs.Answers.{refusalOf}
 use Rattle.device.proofs.Refusing.{answered-device, answered-refusal}
-use Rattle.collection.specs.Passed.{Admits}
+use Rattle.collection.specs.Admitting.{Admits}
 use Rattle.collection.proofs.Ending.{closed, bad-spare, bad-plan, bad-erased, unsound}
 use Rattle.collection.proofs.collect.check.Statement.{statement}
 use Rattle.collection.proofs.collect.check.Tie as tie

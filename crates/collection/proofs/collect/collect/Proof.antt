@@ -13,9 +13,9 @@ use Rattle.calls.specs.Collection.{victims, blocksOf, moves, noGain}
 use Rattle.calls.specs.History.{lend}
 use Rattle.spare.specs.Read.{numbersOf}
 use Rattle.device.specs.Reading.{readState}
+use Rattle.device.specs.Shaped.{Passed}
 use Rattle.device.specs.Answers.{refusalOf, collectAnswer}
 use Rattle.device.proofs.Shaping.{length-counts}
-use Rattle.collection.specs.Passed.{Passed}
 use Rattle.collection.proofs.Chosen.{blocks-length}
 use Rattle.collection.proofs.Gathering.{front}
 use Rattle.collection.proofs.Taken.{blocks-few}

@@ -7,8 +7,8 @@ use borrow.Author.Tests.{not-true, not-false}
 use Rattle.calls.specs.Agreement.{allNamed}
 use Rattle.spare.specs.Read.{numbersOf}
 use Rattle.device.specs.Reading.{readState}
+use Rattle.device.specs.Shaped.{Passed}
 use Rattle.device.specs.Answers.{refusalOf, agreeAnswer}
-use Rattle.device.specs.Agreeing.{Passed}
 use Rattle.device.proofs.Agreeing.{checked-device, checked-refusal, ran-agree, first-refuses, second-refuses, first-unnamed, second-unnamed, agree-answers, other-numbers, pages-decide}
 use Rattle.device.proofs.agree.agree.Statement.{statement}
 use Rattle.device.proofs.agree.agree.Tie as tie

@@ -1,0 +1,78 @@
+-- Taking an exported function's number apart gives the answer's values back: no field runs over into the next. Assumes nothing.
+use mathlib.Core.Path.{_≡_, refl, sym, subst}
+use mathlib.Core.List.{List}
+use mathlib.Core.Option.{Option, none, some}
+use mathlib.Core.Bool.{true, false}
+use Prim.Native.Nat.{ℕ, _+_, _*_, _/_, _%_, _<_}
+use native.Mathlib.Omega.{arith}
+use borrow.Author.Tests.{not-false}
+use Rattle.model.specs.Levels.{recordCount}
+use Rattle.model.specs.State.{State, groupAt}
+use Rattle.model.specs.Sound.{soundGroup}
+use Rattle.model.proofs.SoundGroup.{group-parts}
+use Rattle.calls.specs.Refusals.{Refusal, refusalNumber, firstRefusal}
+use Rattle.calls.specs.Outcome.{Answer, formatted, flushed, found, notWritten, collected, compacted, agreed, refused}
+use Rattle.calls.specs.History.{Call}
+use Rattle.calls.proofs.Decided.{clears}
+use Rattle.device.specs.Listing as listing
+use Rattle.export.specs.Packing.{bit20, bit40, bit56, bit60, packed, packedListing, Fitting, Packs}
+use Rattle.export.proofs.Bounds.{ran-fits}
+
+-- The fields of a number, from the highest down.
+pub record Fields (r refusal found third second first : ℕ) : Type 0 where
+  pub refusal-is : r / bit60 ≡ refusal
+  pub found-is : r / bit56 % 16 ≡ found
+  pub third-is : r / bit40 % 65536 ≡ third
+  pub second-is : r / bit20 % bit20 ≡ second
+  pub first-is : r % bit20 ≡ first
+
+-- Values below the widths of their fields are read back.
+unpacks : (a b c d e r : ℕ) → b < 16 → c < 65536 → d < bit20 → e < bit20 → r ≡ a * bit60 + b * bit56 + c * bit40 + d * bit20 + e → Fields r a b c d e
+unpacks a b c d e r hb hc hd he h = record { refusal-is = omega arith; found-is = omega arith; third-is = omega arith; second-is = omega arith; first-is = omega arith }
+
+-- The fields that an answer's number has.
+pub Unpacked : ℕ → Answer → Type 0
+Unpacked r formatted = Fields r 0 0 0 0 0
+Unpacked r (flushed p n) = Fields r 0 0 0 n p
+Unpacked r (found p q n) = Fields r 0 1 n q p
+Unpacked r (notWritten n) = Fields r 0 0 n 0 0
+Unpacked r (collected p n e) = Fields r 0 0 e n p
+Unpacked r (compacted n) = Fields r 0 0 0 0 n
+Unpacked r (agreed true) = Fields r 0 0 0 0 1
+Unpacked r (agreed false) = Fields r 0 0 0 0 0
+Unpacked r (refused x) = Fields r (refusalNumber x) 0 0 0 0
+
+answer-unpacked : (a : Answer) → Fitting a → Unpacked (packed a) a
+unfolding Unpacked packed Fitting
+answer-unpacked formatted h = unpacks 0 0 0 0 0 _ (omega arith) (omega arith) (omega arith) (omega arith) (omega arith)
+answer-unpacked (flushed p n) h = unpacks 0 0 0 n p _ (omega arith) (omega arith) (omega arith) (omega arith) (omega arith)
+answer-unpacked (found p q n) h = unpacks 0 1 n q p _ (omega arith) (omega arith) (omega arith) (omega arith) (omega arith)
+answer-unpacked (notWritten n) h = unpacks 0 0 n 0 0 _ (omega arith) (omega arith) (omega arith) (omega arith) (omega arith)
+answer-unpacked (collected p n e) h = unpacks 0 0 e n p _ (omega arith) (omega arith) (omega arith) (omega arith) (omega arith)
+answer-unpacked (compacted n) h = unpacks 0 0 0 0 n _ (omega arith) (omega arith) (omega arith) (omega arith) (omega arith)
+answer-unpacked (agreed true) h = unpacks 0 0 0 0 1 _ (omega arith) (omega arith) (omega arith) (omega arith) (omega arith)
+answer-unpacked (agreed false) h = unpacks 0 0 0 0 0 _ (omega arith) (omega arith) (omega arith) (omega arith) (omega arith)
+answer-unpacked (refused x) h = unpacks (refusalNumber x) 0 0 0 0 _ (omega arith) (omega arith) (omega arith) (omega arith) (omega arith)
+
+-- Whatever a call exported answers, its fields are those of document 01's answer.
+pub unpacked : {c : Call} {state spare : List ℕ} {r : ℕ} {state′ spare′ plan′ erased′ : List ℕ} → (p : Packs c state spare r state′ spare′ plan′ erased′) → Unpacked r (p .answer)
+unpacked p = subst (λ (n : ℕ). Unpacked n (p .answer)) (sym (p .is)) (answer-unpacked (p .answer) (ran-fits (p .ran)))
+
+-- The fields that a listing's number has.
+pub UnpackedListing : ℕ → listing.Answer → Type 0
+UnpackedListing r (listing.records n) = Fields r 0 0 0 0 n
+UnpackedListing r (listing.refused x) = Fields r (refusalNumber x) 0 0 0 0
+
+-- Likewise for a listing: a group that is listed has at most 512 records.
+pub listing-unpacked : (k : ℕ) (s : State) (out : List ℕ) → UnpackedListing (packedListing (listing.list k s out .answer)) (listing.list k s out .answer)
+unfolding listing.list listing.listChecks listing.listDone listing.outcome packedListing UnpackedListing
+listing-unpacked k s out = go (firstRefusal (listing.listChecks k s out)) refl
+  where
+    go : (o : Option Refusal) → firstRefusal (listing.listChecks k s out) ≡ o
+        → UnpackedListing (packedListing (listing.outcome o out (listing.listDone k s out) .answer)) (listing.outcome o out (listing.listDone k s out) .answer)
+    go none e =
+        let three = clears _ _ (clears _ _ (clears _ _ e .1) .1) in
+        let sound = not-false (soundGroup (s .device .N) k (groupAt s k)) (clears _ _ (three .1) .0) in
+        let few = group-parts (s .device .N) k (groupAt s k) sound .limit in
+        unpacks 0 0 0 0 (recordCount (groupAt s k)) _ (omega arith) (omega arith) (omega arith) (omega arith) (omega arith)
+    go (some x) e = unpacks (refusalNumber x) 0 0 0 0 _ (omega arith) (omega arith) (omega arith) (omega arith) (omega arith)

@@ -1,0 +1,70 @@
+-- Each arm by the number of its answer; what is answered fits its fields, so no sum passes 2^64.
+use mathlib.Core.Path.{sym, ap, subst, _∙_}
+use Prim.Native.Nat.{_≤_, _<_}
+use native.Mathlib.Omega.{arith}
+use borrow.Author.Needs.{needs}
+use Rattle.device.specs.declared.answers.Collected.{Collected}
+use Rattle.device.specs.Answers.{collectAnswer}
+use Rattle.export.specs.Packing.{bit20, packed, Fitting}
+use Rattle.export.proofs.pack.collect.Statement.{statement}
+use Rattle.export.proofs.pack.collect.Tie as tie
+
+-- what the fields hold
+bounds : (c : tie.After-known-told) → (c .before .a .given .0 .0 < bit20) × (c .before .a .given .0 .1 .0 ≤ 256) × (c .before .a .given .0 .1 .1 .0 ≤ 4096)
+unfolding Fitting collectAnswer
+bounds c = subst (λ (a : Collected). Fitting (collectAnswer a)) (c .before .a .given .1) (c .before .before .before .pre)
+
+enum-known-a : tie.Need-enum-known-a
+enum-known-a c = search needs
+
+cast-result : tie.Need-cast-result
+cast-result c = search needs
+
+mul-result : tie.Need-mul-result
+mul-result c = omega (arith, bounds c)
+
+cast-result-2 : tie.Need-cast-result-2
+cast-result-2 c = search needs
+
+mul-result-2 : tie.Need-mul-result-2
+mul-result-2 c = search needs
+
+add-result : tie.Need-add-result
+add-result c = omega (arith, bounds c)
+
+cast-result-3 : tie.Need-cast-result-3
+cast-result-3 c = search needs
+
+add-result-2 : tie.Need-add-result-2
+add-result-2 c = omega (arith, bounds c)
+
+enum-known-a-2 : tie.Need-enum-known-a-2
+enum-known-a-2 c = search needs
+
+refused-requires : tie.Need-refused-requires
+refused-requires c κs = search needs
+
+returns : tie.Need-returns
+unfolding packed collectAnswer
+returns c = sym (ap (λ (a : Collected). packed (collectAnswer a)) (c .before .a .given .1))
+
+returns-2 : tie.Need-returns-2
+unfolding collectAnswer
+returns-2 c = c .refused .ensures ∙ sym (ap (λ (a : Collected). packed (collectAnswer a)) (c .before .before .a2 .given .1))
+
+pub collect-spec : {M : Type 1} → statement M
+collect-spec =
+    tie.close
+    (tie.spec
+    enum-known-a
+    cast-result
+    mul-result
+    cast-result-2
+    mul-result-2
+    add-result
+    cast-result-3
+    add-result-2
+    enum-known-a-2
+    refused-requires
+    returns
+    returns-2)

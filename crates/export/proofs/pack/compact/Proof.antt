@@ -1,0 +1,32 @@
+-- Each arm by the number of its answer.
+use mathlib.Core.Path.{sym, ap, _∙_}
+use borrow.Author.Needs.{needs}
+use Rattle.device.specs.declared.answers.Compacted.{Compacted}
+use Rattle.device.specs.Answers.{compactAnswer}
+use Rattle.export.specs.Packing.{packed}
+use Rattle.export.proofs.pack.compact.Statement.{statement}
+use Rattle.export.proofs.pack.compact.Tie as tie
+
+enum-known-a : tie.Need-enum-known-a
+enum-known-a c = search needs
+
+cast-result : tie.Need-cast-result
+cast-result c = search needs
+
+enum-known-a-2 : tie.Need-enum-known-a-2
+enum-known-a-2 c = search needs
+
+refused-requires : tie.Need-refused-requires
+refused-requires c κs = search needs
+
+returns : tie.Need-returns
+unfolding packed compactAnswer
+returns c = sym (ap (λ (a : Compacted). packed (compactAnswer a)) (c .before .a .given .1))
+
+returns-2 : tie.Need-returns-2
+unfolding compactAnswer
+returns-2 c = c .refused .ensures ∙ sym (ap (λ (a : Compacted). packed (compactAnswer a)) (c .before .before .a2 .given .1))
+
+pub compact-spec : {M : Type 1} → statement M
+compact-spec =
+    tie.close (tie.spec enum-known-a cast-result enum-known-a-2 refused-requires returns returns-2)

@@ -1,0 +1,28 @@
+-- Each arm by the number of its answer.
+use mathlib.Core.Path.{sym, ap, _∙_}
+use borrow.Author.Needs.{needs}
+use Rattle.device.specs.declared.answers.Formatted.{Formatted}
+use Rattle.device.specs.Answers.{formatAnswer}
+use Rattle.export.specs.Packing.{packed}
+use Rattle.export.proofs.pack.format.Statement.{statement}
+use Rattle.export.proofs.pack.format.Tie as tie
+
+enum-told : tie.Need-enum-told
+enum-told c = search needs
+
+enum-known-a : tie.Need-enum-known-a
+enum-known-a c = search needs
+
+refused-requires : tie.Need-refused-requires
+refused-requires c κs = search needs
+
+returns : tie.Need-returns
+unfolding packed formatAnswer
+returns c = sym (ap (λ (a : Formatted). packed (formatAnswer a)) (c .enum-told .given .1))
+
+returns-2 : tie.Need-returns-2
+unfolding formatAnswer
+returns-2 c = c .refused .ensures ∙ sym (ap (λ (a : Formatted). packed (formatAnswer a)) (c .before .before .a .given .1))
+
+pub format-spec : {M : Type 1} → statement M
+format-spec = tie.close (tie.spec enum-told enum-known-a refused-requires returns returns-2)

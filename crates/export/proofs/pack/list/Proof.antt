@@ -1,0 +1,32 @@
+-- Each arm by the number of its answer.
+use mathlib.Core.Path.{sym, ap, _∙_}
+use borrow.Author.Needs.{needs}
+use Rattle.device.specs.declared.answers.Listed.{Listed}
+use Rattle.device.specs.Listing.{listAnswer}
+use Rattle.export.specs.Packing.{packed, packedListing}
+use Rattle.export.proofs.pack.list.Statement.{statement}
+use Rattle.export.proofs.pack.list.Tie as tie
+
+enum-known-a : tie.Need-enum-known-a
+enum-known-a c = search needs
+
+cast-result : tie.Need-cast-result
+cast-result c = search needs
+
+enum-known-a-2 : tie.Need-enum-known-a-2
+enum-known-a-2 c = search needs
+
+refused-requires : tie.Need-refused-requires
+refused-requires c κs = search needs
+
+returns : tie.Need-returns
+unfolding packedListing listAnswer
+returns c = sym (ap (λ (a : Listed). packedListing (listAnswer a)) (c .before .a .given .1))
+
+returns-2 : tie.Need-returns-2
+unfolding packed packedListing listAnswer
+returns-2 c = c .refused .ensures ∙ sym (ap (λ (a : Listed). packedListing (listAnswer a)) (c .before .before .a2 .given .1))
+
+pub list-spec : {M : Type 1} → statement M
+list-spec =
+    tie.close (tie.spec enum-known-a cast-result enum-known-a-2 refused-requires returns returns-2)

@@ -1,0 +1,128 @@
+// The functions for C and Rust: each call's answer packed into a u64, `refusal × 2^60 + …`. The rest is 0 where the call is refused.
+mod pack;
+
+use collection::collect::collect;
+use device::agree::agree;
+use device::compact::compact;
+use device::format::format;
+use device::list::list;
+use device::lookup::lookup;
+use device::numbers::state_len;
+use device::numbers::within_limits;
+use flush::flush;
+use spare::Numbers;
+ghost use mathlib.Core.Path.{_≡_};
+ghost use mathlib.Core.List.{List, []};
+ghost use Prim.Native.Nat.{ℕ};
+ghost use Rattle.calls.specs.History.{formatCall, flushCall, lookupCall, collectCall, compactCall, agreeCall};
+ghost use Rattle.device.specs.Reading.{readState};
+ghost use Rattle.device.specs.Listing.{list};
+ghost use Rattle.export.specs.Packing.{packedListing, Packs, stateLen, spareLen};
+
+// The length of the state, in bytes; 0 where the numbers are outside their limits.
+#[no_mangle]
+pub extern "C" fn hedjosur_state_len(m: u32, b: u32, n: u32, g: u32) -> u64
+    ensures { λ r. ⌜ r ≡ stateLen (record { M = m; B = b; N = n; g = g }) ⌝ }
+{
+    let d = Numbers { m, b, n, g };
+    if !within_limits(d) {
+        return 0;
+    }
+    state_len(d) as u64
+}
+
+// The length of the spare area, in entries; likewise.
+#[no_mangle]
+pub extern "C" fn hedjosur_spare_len(m: u32, b: u32, n: u32, g: u32) -> u64
+    ensures { λ r. ⌜ r ≡ spareLen (record { M = m; B = b; N = n; g = g }) ⌝ }
+{
+    let d = Numbers { m, b, n, g };
+    if !within_limits(d) {
+        return 0;
+    }
+    spare::spare_len(d) as u64
+}
+
+// Document 01's format: 0.
+#[no_mangle]
+pub extern "C" fn hedjosur_format(
+    m: u32,
+    b: u32,
+    n: u32,
+    g: u32,
+    state: &mut [u8],
+    spare: &mut [u32],
+) -> u64
+    ensures { λ r. ⌜ Packs (formatCall (record { M = m; B = b; N = n; g = g }))
+        (now (state .entry)) (now (spare .entry)) r (now (state .exit)) (now (spare .exit)) [] [] ⌝ }
+{
+    pack::format(format(m, b, n, g, state, spare))
+}
+
+// Document 01's flush: count × 2^20 + first page.
+#[no_mangle]
+pub extern "C" fn hedjosur_flush(
+    state: &mut [u8],
+    spare: &mut [u32],
+    batch: &[u32],
+    plan: &mut [u32],
+) -> u64
+    ensures { λ r. ⌜ Packs (flushCall (now (batch .entry)) (now (plan .entry))) (now (state .entry)) (now (spare .entry)) r
+        (now (state .exit)) (now (spare .exit)) (now (plan .exit)) [] ⌝ }
+{
+    pack::flush(flush(state, spare, batch, plan))
+}
+
+// Document 01's lookup: found × 2^56 + levels × 2^40 + predicted page × 2^20 + page.
+#[no_mangle]
+pub extern "C" fn hedjosur_lookup(state: &[u8], spare: &[u32], page: u32) -> u64
+    ensures { λ r. ⌜ Packs (lookupCall page) (now (state .entry)) (now (spare .entry)) r
+        (now (state .entry)) (now (spare .entry)) [] [] ⌝ }
+{
+    pack::lookup(lookup(state, spare, page))
+}
+
+// Document 01's collection: blocks erased × 2^40 + count × 2^20 + first page.
+#[no_mangle]
+pub extern "C" fn hedjosur_collect(
+    state: &mut [u8],
+    spare: &mut [u32],
+    plan: &mut [u32],
+    erased: &mut [u32],
+) -> u64
+    ensures { λ r. ⌜ Packs (collectCall (now (plan .entry)) (now (erased .entry))) (now (state .entry)) (now (spare .entry)) r
+        (now (state .exit)) (now (spare .exit)) (now (plan .exit)) (now (erased .exit)) ⌝ }
+{
+    pack::collect(collect(state, spare, plan, erased))
+}
+
+// Document 01's compaction: the records left.
+#[no_mangle]
+pub extern "C" fn hedjosur_compact(state: &mut [u8], group: u32) -> u64
+    ensures { λ r. ⌜ ((spare : List ℕ) → Packs (compactCall group) (now (state .entry)) spare r (now (state .exit)) spare [] []) ⌝ }
+{
+    pack::compact(compact(state, group))
+}
+
+// Document 01's agreement: 1 yes, 0 no.
+#[no_mangle]
+pub extern "C" fn hedjosur_agree(
+    state_a: &[u8],
+    spare_a: &[u32],
+    state_b: &[u8],
+    spare_b: &[u32],
+) -> u64
+    ensures { λ r. ⌜ ((state spare : List ℕ) → Packs (agreeCall (readState (now («state_a» .entry))) (now («spare_a» .entry)) (readState (now («state_b» .entry))) (now («spare_b» .entry)))
+        state spare r state spare [] []) ⌝ }
+{
+    pack::agree(agree(state_a, spare_a, state_b, spare_b))
+}
+
+// Lists a group, ten bytes a record at the start of `out`: the records.
+#[no_mangle]
+pub extern "C" fn hedjosur_list(state: &[u8], group: u32, out: &mut [u8]) -> u64
+    ensures { λ r. ⌜ r ≡ packedListing (list group (readState (now (state .entry))) (now (out .entry)) .answer) ⌝ }
+    ensures { λ _. ⌜ now (out .exit) ≡ list group (readState (now (state .entry))) (now (out .entry)) .out ⌝ }
+{
+    pack::list(list(state, group, out))
+}

@@ -1,0 +1,114 @@
+// A call's answer as one number: `refusal × 2^60 + …`.
+use device::answers::Agreed;
+use device::answers::Collected;
+use device::answers::Compacted;
+use device::answers::Flushed;
+use device::answers::Formatted;
+use device::answers::Listed;
+use device::answers::Lookup;
+use device::answers::Refusal;
+ghost use mathlib.Core.Path.{_≡_};
+ghost use Rattle.calls.specs.Refusals.{refusalNumber};
+ghost use Rattle.calls.specs.Outcome.{refused};
+ghost use Rattle.device.specs.Answers.{refusalOf, formatAnswer, flushAnswer, lookupAnswer, collectAnswer, compactAnswer, agreeAnswer};
+ghost use Rattle.device.specs.Listing.{listAnswer};
+ghost use Rattle.export.specs.Packing.{packed, packedListing, Fitting};
+
+// The places of the fields behind the first.
+const BIT20: u64 = 1048576;
+
+const BIT40: u64 = 1099511627776;
+
+const BIT56: u64 = 72057594037927936;
+
+const BIT60: u64 = 1152921504606846976;
+
+// Document 01's number of a refusal.
+fn number(r: Refusal) -> u64
+    ensures { λ n. ⌜ n ≡ refusalNumber (refusalOf r) ⌝ }
+{
+    match r {
+        Refusal::BadNumbers => 1,
+        Refusal::BadLength => 2,
+        Refusal::NotSound => 3,
+        Refusal::OutOfRange => 4,
+        Refusal::BadBatch => 5,
+        Refusal::NoFreeBlock => 6,
+        Refusal::NotNamed => 7,
+        Refusal::NothingToGain => 8,
+    }
+}
+
+// A refused call's answer.
+fn refused(r: Refusal) -> u64
+    ensures { λ n. ⌜ n ≡ packed (refused (refusalOf r)) ⌝ }
+{
+    number(r) * BIT60
+}
+
+pub fn format(a: Formatted) -> u64
+    ensures { λ n. ⌜ n ≡ packed (formatAnswer a) ⌝ }
+{
+    match a {
+        Formatted::Done => 0,
+        Formatted::Refused(r) => refused(r),
+    }
+}
+
+pub fn flush(a: Flushed) -> u64
+    ensures { λ n. ⌜ n ≡ packed (flushAnswer a) ⌝ }
+{
+    match a {
+        Flushed::Done(p, n) => (n as u64) * BIT20 + (p as u64),
+        Flushed::Refused(r) => refused(r),
+    }
+}
+
+pub fn lookup(a: Lookup) -> u64
+    requires { ⌜ Fitting (lookupAnswer a) ⌝ }
+    ensures { λ n. ⌜ n ≡ packed (lookupAnswer a) ⌝ }
+{
+    match a {
+        Lookup::Found(p, q, n) => BIT56 + (n as u64) * BIT40 + (q as u64) * BIT20 + (p as u64),
+        Lookup::NotWritten(n) => (n as u64) * BIT40,
+        Lookup::Refused(r) => refused(r),
+    }
+}
+
+pub fn collect(a: Collected) -> u64
+    requires { ⌜ Fitting (collectAnswer a) ⌝ }
+    ensures { λ n. ⌜ n ≡ packed (collectAnswer a) ⌝ }
+{
+    match a {
+        Collected::Done(p, n, e) => (e as u64) * BIT40 + (n as u64) * BIT20 + (p as u64),
+        Collected::Refused(r) => refused(r),
+    }
+}
+
+pub fn compact(a: Compacted) -> u64
+    ensures { λ n. ⌜ n ≡ packed (compactAnswer a) ⌝ }
+{
+    match a {
+        Compacted::Done(n) => n as u64,
+        Compacted::Refused(r) => refused(r),
+    }
+}
+
+pub fn agree(a: Agreed) -> u64
+    ensures { λ n. ⌜ n ≡ packed (agreeAnswer a) ⌝ }
+{
+    match a {
+        Agreed::Yes => 1,
+        Agreed::No => 0,
+        Agreed::Refused(r) => refused(r),
+    }
+}
+
+pub fn list(a: Listed) -> u64
+    ensures { λ n. ⌜ n ≡ packedListing (listAnswer a) ⌝ }
+{
+    match a {
+        Listed::Done(n) => n as u64,
+        Listed::Refused(r) => refused(r),
+    }
+}

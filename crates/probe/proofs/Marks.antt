@@ -1,0 +1,180 @@
+-- Whether a record and its mask fit: the tests of each offset and of the ends decide it. Assumes nothing.
+use mathlib.Core.Path.{_≡_, refl, sym, ap, _∙_}
+use mathlib.Core.List.{List}
+use mathlib.Core.Bool.{true≢false, Bool, true, false, not, _&&_}
+use Prim.Native.Nat.{ℕ, zero, suc, _+_, _<_}
+use native.Mathlib.Omega.{arith}
+use lib.Dec.{leb, eqb}
+use lib.ListN.{getD}
+use borrow.Author.Tests.{eqb-true, eq-eqb, ne-eqb, le-leb, leb-true}
+use Rattle.model.specs.Lists.{elem}
+use Rattle.model.specs.Record.{Kind, single, accurate, approximate, kindOf, covers, memberAs, member}
+use Rattle.model.specs.Sound.{soundRecord}
+use Rattle.model.proofs.Bools.{and-l, and-r, and-i, iff-bool, is-false}
+use Rattle.model.proofs.Order.{sound-within}
+use Rattle.record.specs.declared.Record.{Record}
+use Rattle.record.specs.Read.{asRecord}
+use Rattle.record.specs.Scan.{masked}
+use Rattle.group.specs.declared.Slot.{Slot}
+use Rattle.group.specs.Reading.{everyFrom, ownedBy, ownedAs}
+use Rattle.group.specs.Checking.{approx, endOf, shaped}
+use Rattle.group.proofs.Members.{every-of, of-every}
+use Rattle.group.proofs.Ends.{Ends, owned-by}
+use Rattle.group.proofs.Shapes.{sound-shaped, sound-ends, sound-of}
+use Rattle.probe.specs.Groups.{bit, ownerIf, ownersBy, recordBy, marks, fitting, markedAs, marked, endsMarked}
+
+-- the record owns, by the owners of the mask, what the mask has
+owner-masked : (t : Bool) (start : ℕ) → eqb (ownerIf t start) (suc start) ≡ t
+unfolding ownerIf
+owner-masked true start = eq-eqb (suc start) (suc start) refl
+owner-masked false start = ne-eqb 0 (suc start) (λ e. absurd (omega arith))
+
+module _ (m : List ℕ) (r : Record) where
+  -- the slot of the record alone
+  abbrev alone : Slot
+  alone = record { level = 0; held = r }
+
+  module _ (o : ℕ) (h : o < 256) where
+    member-by : (owned t : Bool) → masked m o ≡ owned → ((L : List ℕ) → elem o L ≡ owned → t ≡ member (asRecord r L) o) → t ≡ member (recordBy m r) o
+    unfolding member memberAs ownedAs covers
+    member-by owned t e f =
+        f (ownedBy (ownersBy m r) (r .start)) (owned-by (ownersBy m r) (r .start) o h ∙ owner-masked (masked m o) (r .start) ∙ e) ∙ go (kindOf (r .word))
+      where
+        go : (k : Kind) → memberAs k (asRecord r (ownedBy (ownersBy m r) (r .start))) o ≡ memberAs k (asRecord r (ownedAs k (ownersBy m r) (r .start))) o
+        go single = refl
+        go (accurate d) = refl
+        go (approximate a) = refl
+
+    -- One offset's test, a law for each way to answer.
+    pub marked-zero : (t : Bool) → getD m o 0 ≡ 0 → ((L : List ℕ) → elem o L ≡ false → t ≡ member (asRecord r L) o) → not t ≡ marked m r o
+    unfolding markedAs
+    marked-zero t e f =
+        let k : masked m o ≡ false = ap not (eq-eqb (getD m o 0) 0 e) in
+        ap not (member-by false t k f) ∙ ap (λ (n : ℕ). markedAs n (member (recordBy m r) o) (covers (recordBy m r) o)) (sym e)
+
+    pub marked-many : (getD m o 0 ≡ 0 → ⊥) → (getD m o 0 ≡ 1 → ⊥) → false ≡ marked m r o
+    unfolding markedAs
+    marked-many e f = go (getD m o 0) e f
+      where
+        go : (n : ℕ) → (n ≡ 0 → ⊥) → (n ≡ 1 → ⊥) → false ≡ markedAs n (member (recordBy m r) o) (covers (recordBy m r) o)
+        go zero a b = absurd (a refl)
+        go (suc zero) a b = absurd (b refl)
+        go (suc (suc n)) a b = refl
+
+    pub marked-beyond : (t : Bool) → getD m o 0 ≡ 1 → ((L : List ℕ) → t ≡ covers (asRecord r L) o) → t ≡ false → false ≡ marked m r o
+    unfolding markedAs
+    marked-beyond t e f q =
+        let k : covers (recordBy m r) o ≡ false = sym (f _) ∙ q in
+        rw (k, e)
+
+    pub marked-one : (t u : Bool) → getD m o 0 ≡ 1 → ((L : List ℕ) → t ≡ covers (asRecord r L) o) → t ≡ true
+        → ((L : List ℕ) → elem o L ≡ true → u ≡ member (asRecord r L) o) → u ≡ marked m r o
+    unfolding markedAs
+    marked-one t u e f q g =
+        let k : covers (recordBy m r) o ≡ true = sym (f _) ∙ q in
+        let l : masked m o ≡ true = ap not (ne-eqb (getD m o 0) 0 (λ z. absurd (omega arith))) in
+        rw (k, e) (member-by true u l g)
+
+  -- The test of the ends, likewise.
+  pub ends-other : approx r ≡ false → true ≡ endsMarked (approx r) m r
+  unfolding endsMarked
+  ends-other e = rw e
+
+  pub ends-first : approx r ≡ true → getD m (r .start) 0 ≡ 0 → false ≡ endsMarked (approx r) m r
+  unfolding endsMarked
+  ends-first e z = rw (e, eq-eqb (getD m (r .start) 0) 0 z)
+
+  pub ends-last : approx r ≡ true → (getD m (r .start) 0 ≡ 0 → ⊥) → masked m (r .start + r .span) ≡ endsMarked (approx r) m r
+  unfolding endsMarked
+  ends-last e z = rw (e, ne-eqb (getD m (r .start) 0) 0 z)
+
+  -- by one offset's test, and by the mask there
+  marked-marks : (o : ℕ) → marked m r o ≡ true → marks m r o ≡ true
+  unfolding markedAs marks bit
+  marked-marks o = go (getD m o 0) (member (recordBy m r) o) (covers (recordBy m r) o)
+    where
+      go : (n : ℕ) (a c : Bool) → markedAs n a c ≡ true → eqb n (bit a) ≡ true
+      go zero true c e = absurd (true≢false (sym e))
+      go zero false c e = eq-eqb 0 0 refl
+      go (suc zero) true c e = eq-eqb 1 1 refl
+      go (suc zero) false true e = absurd (true≢false (sym e))
+      go (suc zero) false false e = absurd (true≢false (sym e))
+      go (suc (suc n)) a c e = absurd (true≢false (sym e))
+
+  marked-covers : (o : ℕ) → marked m r o ≡ true → masked m o ≡ true → covers (recordBy m r) o ≡ true
+  unfolding markedAs
+  marked-covers o = go (getD m o 0) (member (recordBy m r) o) (covers (recordBy m r) o)
+    where
+      go : (n : ℕ) (a c : Bool) → markedAs n a c ≡ true → not (eqb n 0) ≡ true → c ≡ true
+      go zero a c e k = absurd (true≢false (sym (ap not (sym (eq-eqb 0 0 refl)) ∙ k)))
+      go (suc zero) a true e k = refl
+      go (suc zero) a false e k = absurd (true≢false (sym e))
+      go (suc (suc n)) a c e k = absurd (true≢false (sym e))
+
+  marks-marked : (o : ℕ) → marks m r o ≡ true → (member (recordBy m r) o ≡ true → covers (recordBy m r) o ≡ true) → marked m r o ≡ true
+  unfolding markedAs marks bit
+  marks-marked o h f = go (getD m o 0) (member (recordBy m r) o) (eqb-true _ _ h) f
+    where
+      go : (n : ℕ) (a : Bool) → n ≡ bit a → (a ≡ true → covers (recordBy m r) o ≡ true) → markedAs n a (covers (recordBy m r) o) ≡ true
+      go n true e g = rw (e, g refl)
+      go n false e g = rw e
+
+  owned-masked : (t : Bool) → ownerIf t (r .start) ≡ suc (r .start) → t ≡ true
+  unfolding ownerIf
+  owned-masked true e = refl
+  owned-masked false e = absurd (omega arith)
+
+  -- what a fit record and mask pass
+  module _ (h : fitting m r ≡ true) where
+    sound-by : soundRecord 256 0 (recordBy m r) ≡ true
+    unfolding fitting
+    sound-by = and-l (soundRecord 256 0 (recordBy m r)) _ h
+
+    fits-shaped : shaped 256 0 r ≡ true
+    fits-shaped = sound-shaped (ownersBy m r) alone 256 0 sound-by
+
+    fits-ends : endsMarked (approx r) m r ≡ true
+    unfolding endsMarked
+    fits-ends = go (approx r) refl
+      where
+        go : (t : Bool) → approx r ≡ t → endsMarked t m r ≡ true
+        go true e =
+            let ends = sound-ends (ownersBy m r) alone 256 0 sound-by e in
+            and-i _ _ (owned-masked (masked m (r .start)) (ends .first-own)) (owned-masked (masked m (endOf r)) (ends .last-own))
+        go false e = refl
+
+    fits-marked : everyFrom (marked m r) 256 0 ≡ true
+    unfolding fitting covers
+    fits-marked =
+        of-every (marked m r) 256 0
+        (λ o a b.
+        marks-marked o (every-of (marks m r) 256 0 (and-r (soundRecord 256 0 (recordBy m r)) _ h) o a b)
+        (λ q. let w = sound-within 256 0 (recordBy m r) sound-by o q in and-i _ _ (le-leb _ _ (w .0)) (le-leb _ _ (w .1))))
+
+  -- A record and a mask that pass the tests fit.
+  module _ (shape : shaped 256 0 r ≡ true) (ends : endsMarked (approx r) m r ≡ true) where
+    tested : everyFrom (marked m r) 256 0 ≡ true → fitting m r ≡ true
+    unfolding fitting endsMarked covers ownerIf
+    tested h = and-i _ _ (sound-of (ownersBy m r) alone 256 0 shape owns) (of-every (marks m r) 256 0 (λ o a b. marked-marks o (every-of (marked m r) 256 0 h o a b)))
+      where
+        both : approx r ≡ true → (masked m (r .start) && masked m (endOf r)) ≡ true
+        both e = rw e at ends
+
+        owns : approx r ≡ true → Ends (ownersBy m r) (r .start) (endOf r)
+        owns e = record {
+          first-own = ap (λ (t : Bool). ownerIf t (r .start)) (and-l (masked m (r .start)) _ (both e));
+          last-own = ap (λ (t : Bool). ownerIf t (r .start)) (and-r (masked m (r .start)) _ (both e));
+          within = λ o b q.
+              let c = marked-covers o (every-of (marked m r) 256 0 h o (omega arith) (omega arith)) (owned-masked (masked m o) q) in
+              (leb-true _ _ (and-l (leb (r .start) o) _ c), leb-true _ _ (and-r (leb (r .start) o) _ c));
+        }
+
+    pub all-tests : (t : Bool) → t ≡ everyFrom (marked m r) 256 0 → t ≡ fitting m r
+    all-tests t e = e ∙ iff-bool _ _ tested fits-marked
+
+  -- One that fails a test doesn't.
+  pub not-shaped : shaped 256 0 r ≡ false → false ≡ fitting m r
+  not-shaped e = sym (is-false _ (λ h. true≢false (sym (fits-shaped h) ∙ e)))
+
+  pub not-ends : endsMarked (approx r) m r ≡ false → false ≡ fitting m r
+  not-ends e = sym (is-false _ (λ h. true≢false (sym (fits-ends h) ∙ e)))

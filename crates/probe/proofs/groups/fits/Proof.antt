@@ -1,0 +1,37 @@
+-- By the shape, the ends and the mask, one after the other.
+use mathlib.Core.Path.{_≡_, sym, _∙_}
+use mathlib.Core.Bool.{true}
+use native.Mathlib.Omega.{arith}
+use borrow.Author.Tests.{not-true, not-false}
+use borrow.Author.Needs.{needs}
+use Rattle.group.specs.Checking.{shaped}
+use Rattle.group.proofs.Shapes.{shaped-byte}
+use Rattle.probe.proofs.Marks.{not-shaped, not-ends, all-tests}
+use Rattle.probe.proofs.groups.fits.Statement.{statement}
+use Rattle.probe.proofs.groups.fits.Tie as tie
+
+shape : (c : tie.Else1) → shaped 256 0 (c .before .before .before .args .r) ≡ true
+shape c = sym (c .before .shaped .ensures) ∙ not-false _ (c .if1 .left)
+
+shaped-requires : tie.Need-shaped-requires
+shaped-requires c κs = (c .before .pre .1, omega arith)
+
+returns : tie.Need-returns
+returns c = not-shaped _ _ (sym (c .before .shaped .ensures) ∙ not-true _ (c .if1 .taken))
+
+ends-marked-requires : tie.Need-ends-marked-requires
+ends-marked-requires c κs = (c .before .before .before .pre .0, shaped-byte 256 0 _ (shape c))
+
+returns-2 : tie.Need-returns-2
+returns-2 c = not-ends _ _ (sym (c .before .ends-marked .ensures) ∙ not-true _ (c .if2 .taken))
+
+all-marked-requires : tie.Need-all-marked-requires
+all-marked-requires c κs = search needs
+
+returns-3 : tie.Need-returns-3
+returns-3 c = all-tests _ _ (shape (c .before .before .before)) (sym (c .before .before .ends-marked .ensures) ∙ not-false _ (c .before .if2 .left)) _ (c .all-marked .ensures)
+
+pub fits-spec : {M : Type 1} → statement M
+fits-spec =
+    tie.close
+    (tie.spec shaped-requires returns ends-marked-requires returns-2 all-marked-requires returns-3)

@@ -1,0 +1,111 @@
+-- By the conditions, then what was found, packed: a sound group has at most 512 levels, so no sum passes 2^64.
+use mathlib.Core.Path.{_≡_, sym, ap, _∙_}
+use mathlib.Core.Bool.{true}
+use Prim.Native.Nat.{_≤_}
+use native.Mathlib.Omega.{arith}
+use borrow.Author.Tests.{not-true, not-false}
+use borrow.Author.Needs.{needs}
+use Rattle.group.specs.declared.Hit.{Hit}
+use Rattle.group.specs.Answers.{lookedOf}
+use Rattle.group.proofs.Soundness.{sound-encodes}
+use Rattle.probe.specs.Groups.{isSound}
+use Rattle.probe.proofs.Conditions.{size, sound, not-sound, not-below, levels-bounded, found-at, found-nowhere}
+use Rattle.probe.proofs.groups.probe_group_find.Statement.{statement}
+use Rattle.probe.proofs.groups.probe_group_find.Tie as tie
+
+is-group : (c : tie.Else1) → isSound (c .before .before .before .args .part .now) ≡ true
+is-group c = sym (c .before .is-sound .ensures) ∙ not-false _ (c .if1 .left)
+
+-- how many levels were looked at
+levels : (c : tie.After-known-told) → c .before .hit .given .0 .1 .0 ≤ 512
+unfolding lookedOf
+levels c =
+    levels-bounded _ _ (is-group (c .before .before .before .before .before)) (c .before .before .before .before .if2 .left) (c .before .before .before .find .result) _ (c .before .before .before .find .ensures .1)
+    (ap (λ (x : Hit). lookedOf x) (c .before .hit .given .1))
+
+all-levels : (c : tie.After-known-told2) → c .before .hit2 .given .0 .0 ≤ 512
+unfolding lookedOf
+all-levels c =
+    levels-bounded _ _ (is-group (c .before .before .before .before .before)) (c .before .before .before .before .if2 .left) (c .before .before .before .find .result) _ (c .before .before .before .find .ensures .1)
+    (ap (λ (x : Hit). lookedOf x) (c .before .hit2 .given .1))
+
+is-sound-requires : tie.Need-is-sound-requires
+is-sound-requires c κs = search needs
+
+returns : tie.Need-returns
+returns c = not-sound _ _ (sym (c .before .is-sound .ensures) ∙ not-true _ (c .if1 .taken))
+
+returns-2 : tie.Need-returns-2
+returns-2 c = not-below _ _ (is-group (c .before)) (c .if2 .taken)
+
+find-requires : tie.Need-find-requires
+find-requires c κs = (size _ (is-group (c .before)), sound-encodes 256 0 _ (sound _ (is-group (c .before))), c .if2 .left)
+
+enum-known-hit : tie.Need-enum-known-hit
+enum-known-hit c = search needs
+
+cast-result : tie.Need-cast-result
+cast-result c = search needs
+
+mul-result : tie.Need-mul-result
+mul-result c = omega (arith, levels c)
+
+add-result : tie.Need-add-result
+add-result c = omega (arith, levels c)
+
+cast-result-2 : tie.Need-cast-result-2
+cast-result-2 c = search needs
+
+mul-result-2 : tie.Need-mul-result-2
+mul-result-2 c = search needs
+
+add-result-2 : tie.Need-add-result-2
+add-result-2 c = omega (arith, levels (c .before))
+
+cast-result-3 : tie.Need-cast-result-3
+cast-result-3 c = search needs
+
+add-result-3 : tie.Need-add-result-3
+add-result-3 c = omega (arith, levels (c .before .before))
+
+enum-known-hit-2 : tie.Need-enum-known-hit-2
+enum-known-hit-2 c = search needs
+
+cast-result-4 : tie.Need-cast-result-4
+cast-result-4 c = search needs
+
+mul-result-3 : tie.Need-mul-result-3
+mul-result-3 c = omega (arith, all-levels c)
+
+returns-3 : tie.Need-returns-3
+returns-3 c =
+    let f = c .before .before .before .before .before .find .ensures in
+    found-at _ _ (is-group (c .before .before .before .before .before .before .before)) (c .before .before .before .before .before .before .if2 .left) _ _ _ (f .0) (f .1) (c .before .before .before .hit .given .1)
+
+returns-4 : tie.Need-returns-4
+returns-4 c =
+    let f = c .before .before .before .find .ensures in
+    found-nowhere _ _ (is-group (c .before .before .before .before .before)) (c .before .before .before .before .if2 .left) _ _ (f .0) (f .1) (c .before .hit2 .given .1)
+
+pub probe-group-find-spec : {M : Type 1} → statement M
+probe-group-find-spec =
+    tie.close
+    (tie.spec
+    is-sound-requires
+    returns
+    returns-2
+    find-requires
+    enum-known-hit
+    cast-result
+    mul-result
+    add-result
+    cast-result-2
+    mul-result-2
+    add-result-2
+    cast-result-3
+    add-result-3
+    enum-known-hit-2
+    cast-result-4
+    mul-result-3
+    returns-3
+    returns-4)
