@@ -7,10 +7,10 @@ include!("../probe-sys/functions.rs");
 
 fn main() {
     for function in FUNCTIONS {
-        println!("cargo:rustc-check-cfg=cfg({function})");
+        println!("cargo::rustc-check-cfg=cfg({function})");
         let told = format!("DEP_PROBE_{}", function.to_uppercase());
         if env::var_os(told).is_some() {
-            println!("cargo:rustc-cfg={function}");
+            println!("cargo::rustc-cfg={function}");
         }
     }
 }

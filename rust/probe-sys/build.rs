@@ -1,36 +1,29 @@
 //! Links `libprobe.a` where it was built, and sets a cfg for each function that
-//! it has. The library stands in `target/staticlib` of the repository, or in the
-//! folder that the environment variable `HEDJOSUR_STATICLIB` names.
+//! it has.
 
-use std::path::{Path, PathBuf};
-use std::{env, fs};
+use std::fs;
 
 include!("functions.rs");
+include!("../hedjosur/staticlib.rs");
 
 fn main() {
-    println!("cargo:rerun-if-env-changed=HEDJOSUR_STATICLIB");
-    let folder = env::var_os("HEDJOSUR_STATICLIB").map_or_else(default_folder, PathBuf::from);
+    let folder = staticlib_folder();
     let library = folder.join("libprobe.a");
     // While there is no such file, cargo runs this script every time.
-    println!("cargo:rerun-if-changed={}", library.display());
+    println!("cargo::rerun-if-changed={}", library.display());
     let archive = fs::read(&library).unwrap_or_default();
     for function in FUNCTIONS {
-        println!("cargo:rustc-check-cfg=cfg({function})");
+        println!("cargo::rustc-check-cfg=cfg({function})");
         if names(&archive, function) {
-            println!("cargo:rustc-cfg={function}");
+            println!("cargo::rustc-cfg={function}");
             // Told to the build scripts of crates that depend on this one.
-            println!("cargo:{function}=1");
+            println!("cargo::metadata={function}=1");
         }
     }
     if !archive.is_empty() {
-        println!("cargo:rustc-link-search=native={}", folder.display());
-        println!("cargo:rustc-link-lib=static=probe");
+        println!("cargo::rustc-link-search=native={}", folder.display());
+        println!("cargo::rustc-link-lib=static=probe");
     }
-}
-
-fn default_folder() -> PathBuf {
-    let here = env::var_os("CARGO_MANIFEST_DIR").expect("cargo sets it");
-    Path::new(&here).join("../../target/staticlib")
 }
 
 /// Whether the archive has the name of a function among its symbols: followed by

@@ -16,6 +16,8 @@ pub const HEAD_BYTES: usize = 16;
 pub const COUNT_BYTES: usize = 2;
 /// A slot: a record and its level.
 pub const SLOT_BYTES: usize = 10;
+/// A listing, which has the slots of a group.
+pub const LISTING_BYTES: usize = GROUP_RECORDS * SLOT_BYTES;
 /// An owner: 0, or its record's start plus 1.
 pub const OWNER_BYTES: usize = 2;
 /// Where a group's word 'owned' is; the number of used slots is at 0.
@@ -23,7 +25,7 @@ pub const OWNED_AT: usize = 2;
 /// Where a group's slots begin.
 pub const SLOTS_AT: usize = 4;
 /// Where a group's owners begin.
-pub const OWNERS_AT: usize = SLOTS_AT + GROUP_RECORDS * SLOT_BYTES;
+pub const OWNERS_AT: usize = SLOTS_AT + LISTING_BYTES;
 /// A group.
 pub const GROUP_BYTES: usize = OWNERS_AT + 256 * OWNER_BYTES;
 

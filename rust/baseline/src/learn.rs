@@ -1,5 +1,7 @@
 //! Learning a sorted batch: its runs, taken from the left, and their records.
 
+use std::ops::RangeInclusive;
+
 use crate::record::{Record, RECORD_BYTES};
 
 /// The logical pages of a group.
@@ -64,9 +66,15 @@ pub fn learn(written: &[u32], first: u32, bound: u32, out: &mut [u8]) -> usize {
 fn next_run(rest: &[u32], place: i32, count: i32, bound: i32) -> (usize, Record) {
     let (length, stride) = accurate_run(rest);
     let start = rest[0] % GROUP_PAGES;
+    let ahead = Ahead {
+        rest,
+        place,
+        last: count - 1,
+        bound,
+    };
     let chosen = match bound {
         0 => None,
-        _ => longer_fit(rest, place, count - 1, bound, length),
+        _ => ahead.longer_fit(length),
     };
     let (length, word, intercept) = match chosen {
         Some(fit) => (fit.length, 2 * fit.slope + 1, fit.intercept),
@@ -103,43 +111,101 @@ struct Fit {
     intercept: i32,
 }
 
-/// The longest approximate run, if it is longer than `length`: of the smallest
-/// slope and the smallest intercept. One that takes all of `rest` ends the
-/// search.
-fn longer_fit(rest: &[u32], place: i32, last: i32, bound: i32, mut length: usize) -> Option<Fit> {
-    let mut best = None;
-    for slope in 0..SLOPES {
-        if length == rest.len() {
-            break;
-        }
-        let fit = reach(rest, place, last, bound, slope);
-        if fit.length > length {
-            length = fit.length;
-            best = Some(fit);
-        }
-    }
-    best
+/// One group's logical pages ahead, the first of which stands at `place`, and what
+/// predictions keep to: within `bound` of the page, from place 0 to `last`.
+struct Ahead<'a> {
+    rest: &'a [u32],
+    place: i32,
+    last: i32,
+    bound: i32,
 }
 
-/// How far a slope reaches: the intercepts that suit each member are those from
-/// `least` to `most`, and the run ends before they are none.
-#[inline]
-fn reach(rest: &[u32], place: i32, last: i32, bound: i32, slope: u32) -> Fit {
-    let (mut least, mut most) = (i32::MIN, i32::MAX);
-    let mut length = 0;
-    for (&page, on) in rest.iter().zip(place..) {
-        let rise = (slope * (page % GROUP_PAGES)).div_ceil(256) as i32;
-        let low = least.max((on - bound).max(0) - rise);
-        let high = most.min((on + bound).min(last) - rise);
-        if low > high {
-            break;
+/// An offset, and the places that its prediction may name.
+#[derive(Clone, Copy)]
+struct Target {
+    offset: i32,
+    lowest: i32,
+    highest: i32,
+}
+
+impl Target {
+    /// The intercepts that suit, from the least to the most.
+    #[inline]
+    fn intercepts(self, slope: u32) -> (i32, i32) {
+        let rise = (slope * self.offset as u32).div_ceil(SLOPES) as i32;
+        (self.lowest - rise, self.highest - rise)
+    }
+
+    /// The slopes for which both may suit one intercept. A prediction rises from
+    /// this offset to a later one by what the slope gives, rounded up or down.
+    fn slopes_to(self, later: Target) -> RangeInclusive<u32> {
+        let distance = later.offset - self.offset;
+        let least = later.lowest - self.highest;
+        let most = later.highest - self.lowest;
+        let first = match least {
+            ..=0 => 0,
+            _ => SLOPES as i32 * (least - 1) / distance + 1,
+        };
+        let last = (SLOPES as i32 * (most + 1) - 1) / distance;
+        first as u32..=(last as u32).min(SLOPES - 1)
+    }
+}
+
+impl Ahead<'_> {
+    #[inline]
+    fn target(&self, at: usize) -> Target {
+        let on = self.place + at as i32;
+        Target {
+            offset: (self.rest[at] % GROUP_PAGES) as i32,
+            lowest: (on - self.bound).max(0),
+            highest: (on + self.bound).min(self.last),
         }
-        (least, most) = (low, high);
-        length += 1;
     }
-    Fit {
-        slope,
-        length,
-        intercept: least,
+
+    /// The longest approximate run, if it is longer than `length`: of the smallest
+    /// slope and the smallest intercept. A longer one has the page behind the
+    /// longest so far as a member, and few slopes suit that and the first.
+    fn longer_fit(&self, mut length: usize) -> Option<Fit> {
+        let first = self.target(0);
+        let mut best = None;
+        let mut next_slope = 0;
+        while length < self.rest.len() {
+            let behind = self.target(length);
+            let slopes = first.slopes_to(behind);
+            let longer = (next_slope.max(*slopes.start())..=*slopes.end()).find_map(|slope| {
+                common(first.intercepts(slope), behind.intercepts(slope))?;
+                Some(self.reach(slope)).filter(|fit| fit.length > length)
+            });
+            let Some(longer) = longer else { break };
+            (length, next_slope) = (longer.length, longer.slope + 1);
+            best = Some(longer);
+        }
+        best
     }
+
+    /// How far a slope reaches: the run ends before no intercept suits all members.
+    #[inline]
+    fn reach(&self, slope: u32) -> Fit {
+        let mut suiting = self.target(0).intercepts(slope);
+        let mut length = 1;
+        while length < self.rest.len() {
+            let Some(both) = common(suiting, self.target(length).intercepts(slope)) else {
+                break;
+            };
+            suiting = both;
+            length += 1;
+        }
+        Fit {
+            slope,
+            length,
+            intercept: suiting.0,
+        }
+    }
+}
+
+/// The intercepts that are in both ranges, if there are any.
+#[inline]
+fn common(one: (i32, i32), other: (i32, i32)) -> Option<(i32, i32)> {
+    let both = (one.0.max(other.0), one.1.min(other.1));
+    (both.0 <= both.1).then_some(both)
 }

@@ -20,10 +20,10 @@ use crate::timing::compare;
 const GROUPS: u64 = 16;
 
 /// The sizes of the groups, in records.
-const SIZES: [usize; 4] = [1, 8, 64, 512];
+pub const SIZES: [usize; 4] = [1, 8, 64, 512];
 
-/// A sound group of this many records of all kinds, in bytes.
-fn group_of(size: usize, random: &mut Random) -> Part {
+/// A sound group of this many records of all kinds.
+pub fn group_of(size: usize, random: &mut Random) -> Group {
     let mut group = Group::default();
     let mut unowned = all_offsets();
     while group.size() < size {
@@ -37,20 +37,22 @@ fn group_of(size: usize, random: &mut Random) -> Part {
         }
         group.levels.push(level);
     }
-    let mut bytes = [0; GROUP_BYTES];
-    assert!(encode_group(&group, &mut bytes) && group::sound(&bytes, 256, 0));
-    bytes
+    group
 }
 
-/// The groups of a size; the same ones in every run.
+/// The groups of a size, in bytes; the same ones in every run.
 fn groups_of(size: usize) -> Vec<Part> {
-    (0..GROUPS)
-        .map(|seed| group_of(size, &mut Random::new(seed)))
-        .collect()
+    let parts = (0..GROUPS).map(|seed| {
+        let mut bytes = [0; GROUP_BYTES];
+        let group = group_of(size, &mut Random::new(seed));
+        assert!(encode_group(&group, &mut bytes) && group::sound(&bytes, 256, 0));
+        bytes
+    });
+    parts.collect()
 }
 
 /// An input's name in the table.
-fn records(size: usize) -> String {
+pub fn records(size: usize) -> String {
     match size {
         1 => "1 record".to_string(),
         _ => format!("{size} records"),

@@ -1,6 +1,7 @@
-//! Times the proved code, through its static library, beside the baseline: the
-//! same inputs in the same run, as ratios. A function that the library doesn't
-//! have is told as missing; the baseline is timed all the same.
+//! Times the proved code, through its static libraries, beside the baseline: the
+//! same inputs in the same run, as ratios. First the inner functions (one that the
+//! library doesn't have is told as missing; the baseline is timed all the same),
+//! then the calls.
 //!
 //! `cargo run --release -p hedjosur-bench` in this workspace, best on a machine
 //! with nothing else to do.
@@ -8,6 +9,7 @@
 #![forbid(unsafe_code)]
 
 mod batches;
+mod calls;
 mod groups;
 mod timing;
 
@@ -15,7 +17,7 @@ use timing::Comparison;
 
 fn main() {
     println!(
-        "{:<10} {:<24} {:>12} {:>12} {:>8}",
+        "{:<12} {:<30} {:>12} {:>12} {:>8}",
         "function", "input", "baseline µs", "proved µs", "ratio"
     );
     batches::learning();
@@ -24,6 +26,12 @@ fn main() {
     groups::finding();
     groups::insertion();
     groups::compaction();
+    calls::lookup();
+    calls::compaction();
+    calls::format();
+    calls::flush();
+    calls::collection();
+    calls::agreement();
 }
 
 /// Prints one line of the table.
@@ -33,5 +41,5 @@ fn print(function: &str, input: &str, times: Comparison) {
         Some(proved) => (format!("{proved:.3}"), format!("{:.2}", proved / baseline)),
         None => ("missing".to_string(), "-".to_string()),
     };
-    println!("{function:<10} {input:<24} {baseline:>12.3} {proved:>12} {ratio:>8}");
+    println!("{function:<12} {input:<30} {baseline:>12.3} {proved:>12} {ratio:>8}");
 }

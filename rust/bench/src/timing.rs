@@ -8,6 +8,10 @@ const BATCHES: usize = 101;
 /// What a batch takes at least.
 const LEAST: Duration = Duration::from_micros(150);
 
+/// What all batches of a comparison take at most, but for the fewest that count.
+const MOST: Duration = Duration::from_secs(2);
+const FEWEST: usize = 7;
+
 /// Microseconds for one operation, in the median batch.
 #[derive(Clone, Copy, Debug)]
 pub struct Comparison {
@@ -28,7 +32,11 @@ pub fn compare<W>(
 ) -> Comparison {
     let mut by_baseline = Side::new(work, &prepare, &baseline);
     let mut by_proved = proved.map(|run| (Side::new(work, &prepare, &run), run));
-    for _ in 0..BATCHES {
+    let start = Instant::now();
+    for done in 0..BATCHES {
+        if done >= FEWEST && start.elapsed() > MOST {
+            break;
+        }
         by_baseline.time_batch(work, &prepare, &baseline);
         if let Some((side, run)) = &mut by_proved {
             side.time_batch(work, &prepare, run);
@@ -58,6 +66,8 @@ impl Side {
             let taken = side.times.pop().unwrap_or_default();
             if taken < LEAST {
                 side.repetitions += side.repetitions / 2 + 1;
+            } else if taken > 20 * LEAST {
+                break;
             }
         }
         side

@@ -1,21 +1,27 @@
-//! Compares implementations of the inner functions with the model on many random
-//! inputs.
+//! Compares implementations of the inner functions and of the calls with the
+//! model on many random inputs.
 //!
 //! - [`subjects`]: what is compared: the baseline, and the proved code through
-//!   its static library
+//!   its static libraries
 //! - [`inputs`]: batches, groups and bytes, good and damaged
 //! - [`batches`]: sorting and learning against the model
 //! - [`groups`]: soundness, find, insertion and compaction against the model
-//! - [`calls`]: the calls on a whole state against the model
+//! - [`calls`]: the calls on a whole state, and [`beside`]: one made by the model
+//!   and by an implementation
+//! - [`histories`]: lists of calls that start with a format
+//! - [`arguments`]: calls on arbitrary states, with arguments and lengths of all
+//!   kinds
 //!
-//! Every check runs a few seconds or less; the environment variable
-//! `HEDJOSUR_ROUNDS` multiplies its rounds.
+//! The environment variable `HEDJOSUR_ROUNDS` multiplies the rounds of every check.
 
 #![forbid(unsafe_code)]
 #![warn(missing_docs)]
 
+pub mod arguments;
 pub mod batches;
+pub mod beside;
 pub mod calls;
 pub mod groups;
+pub mod histories;
 pub mod inputs;
 pub mod subjects;

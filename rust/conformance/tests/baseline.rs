@@ -1,7 +1,7 @@
 //! The baseline against the model.
 
 use hedjosur_conformance::subjects::Baseline;
-use hedjosur_conformance::{batches, calls, groups};
+use hedjosur_conformance::{arguments, batches, groups, histories};
 
 #[test]
 fn sorting() {
@@ -39,11 +39,16 @@ fn steps() {
 }
 
 #[test]
-fn histories() {
-    calls::check_histories(&Baseline);
+fn cases() {
+    histories::check_cases(&Baseline);
+}
+
+#[test]
+fn random_histories() {
+    histories::check_histories(&Baseline, 100);
 }
 
 #[test]
 fn arbitrary_states() {
-    calls::check_arbitrary_states(&Baseline);
+    arguments::check_arbitrary_states(&Baseline, 300);
 }

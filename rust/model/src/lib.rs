@@ -10,7 +10,7 @@
 //! - [`levels`]: the levels of a group, and [`sound`]: when a group is sound
 //! - [`ops`]: the operations, each with its refusals in order
 //! - [`book`]: what each page carries, told from calls and answers alone
-//! - [`script`]: the listing program
+//! - [`script`]: the listing program, and [`cases`]: the document's cases
 //!
 //! [`testing`] holds the seeded generators that the tests share.
 
@@ -18,6 +18,7 @@
 #![warn(missing_docs)]
 
 pub mod book;
+pub mod cases;
 pub mod device;
 pub mod learn;
 pub mod levels;

@@ -3,8 +3,7 @@
 
 use crate::device::Device;
 use crate::levels::Group;
-use crate::ops::{self, Refusal};
-use crate::record::Record;
+use crate::ops::{self, Collected, Flushed, Lookup, Refusal};
 use crate::spare::NOBODY;
 use crate::state::Lent;
 
@@ -72,25 +71,45 @@ fn read_number(field: &[u8]) -> Option<u32> {
     })
 }
 
-/// A record's line: 'right-justified in widths 6, 6, 6, 6 and 10'.
-pub fn record_line(level: usize, record: &Record) -> String {
-    let Record {
-        start,
-        span,
-        word,
-        intercept,
-        ..
-    } = record;
-    format!("{level:>6}{start:>6}{span:>6}{word:>6}{intercept:>10}")
+/// A record as a listing has it: level, S, L, word, I.
+pub type Listed = (usize, u8, u8, u16, i32);
+
+/// The records of a group: 'levels downward, each ascending'.
+pub fn listed(group: &Group) -> Vec<Listed> {
+    let levels = group.levels.iter().enumerate();
+    let records = levels.flat_map(|(level, records)| records.iter().map(move |r| (level, r)));
+    records
+        .map(|(level, r)| (level, r.start, r.span, r.word, r.intercept))
+        .collect()
 }
 
-/// The lines of a group: 'the head line, then levels downward, each ascending'.
-pub fn listing(group: &Group) -> Vec<String> {
+/// The lines of a listing: 'the head line, then' a line for each record,
+/// 'right-justified in widths 6, 6, 6, 6 and 10'.
+pub fn listing(records: &[Listed]) -> Vec<String> {
     let mut lines = vec![HEAD.to_string()];
-    for (level, records) in group.levels.iter().enumerate() {
-        lines.extend(records.iter().map(|record| record_line(level, record)));
-    }
+    lines.extend(records.iter().map(|(level, start, span, word, intercept)| {
+        format!("{level:>6}{start:>6}{span:>6}{word:>6}{intercept:>10}")
+    }));
     lines
+}
+
+/// What a call answers, with what it wrote into the lists lent to it.
+#[derive(Clone, Debug, PartialEq, Eq)]
+pub enum Answer {
+    /// It is refused.
+    Refused(Refusal),
+    /// The device is formatted.
+    Formatted,
+    /// A flush's answer, and the front of its plan.
+    Flushed(Flushed, Vec<u32>),
+    /// A lookup's answer.
+    Lookup(Lookup),
+    /// A collection's answer, and the front of its plan and of its erased list.
+    Collected(Collected, [Vec<u32>; 2]),
+    /// How many records a compaction leaves.
+    Compacted(usize),
+    /// The records of a group.
+    Listed(Vec<Listed>),
 }
 
 /// The listing program between two lines: 'the state is an empty slice until a
@@ -112,17 +131,29 @@ impl Default for Program {
 
 impl Program {
     /// What the program prints for one line: 'accepted calls but 6 print
-    /// nothing', 'a refusal prints "refused" and its number'.
+    /// nothing', 'a refusal prints "refused" and its number'. 'It takes devices
+    /// with N up to 1,024 and 8,192 spare entries, else "refused 1".'
     pub fn print(&mut self, line: &[u8]) -> Vec<String> {
         let Some(line) = read_line(line) else {
             return vec![BAD_LINE.to_string()];
         };
-        self.call(line)
-            .unwrap_or_else(|refusal| vec![format!("refused {}", refusal.number())])
+        let answer = match line {
+            Line::Format(numbers) if !takes(numbers) => Answer::Refused(Refusal::DeviceNumbers),
+            line => self.call(&line),
+        };
+        match answer {
+            Answer::Refused(refusal) => vec![format!("refused {}", refusal.number())],
+            Answer::Listed(records) => listing(&records),
+            _ => Vec::new(),
+        }
     }
 
     /// Makes one call, lending it lists of the right lengths.
-    fn call(&mut self, line: Line) -> Result<Vec<String>, Refusal> {
+    pub fn call(&mut self, line: &Line) -> Answer {
+        self.answer(line).unwrap_or_else(Answer::Refused)
+    }
+
+    fn answer(&mut self, line: &Line) -> Result<Answer, Refusal> {
         let (lent, area) = (&mut self.lent, &mut self.area);
         let [blocks, block_pages] = match lent.open() {
             Ok((device, _)) => [device.blocks, device.block_pages],
@@ -130,37 +161,44 @@ impl Program {
         };
         let mut plan = vec![NOBODY; block_pages as usize];
         let mut erased = vec![NOBODY; blocks as usize];
-        match line {
-            Line::Format(numbers) => self.format(numbers)?,
-            Line::Flush(batch) => ops::flush(lent, area, &batch, &mut plan).map(drop)?,
-            Line::Lookup(logical_page) => ops::lookup(lent, area, logical_page).map(drop)?,
-            Line::Collection => ops::collection(lent, area, &mut plan, &mut erased).map(drop)?,
-            Line::Compaction(group) => ops::compaction(lent, group).map(drop)?,
-            Line::List(group) => return self.list(group),
-        }
-        Ok(Vec::new())
+        Ok(match line {
+            Line::Format(numbers) => {
+                self.format(*numbers)?;
+                Answer::Formatted
+            }
+            Line::Flush(batch) => {
+                let flushed = ops::flush(lent, area, batch, &mut plan)?;
+                plan.truncate(flushed.count as usize);
+                Answer::Flushed(flushed, plan)
+            }
+            Line::Lookup(logical_page) => Answer::Lookup(ops::lookup(lent, area, *logical_page)?),
+            Line::Collection => {
+                let collected = ops::collection(lent, area, &mut plan, &mut erased)?;
+                plan.truncate(collected.count as usize);
+                erased.truncate(collected.erased as usize);
+                Answer::Collected(collected, [plan, erased])
+            }
+            Line::Compaction(group) => Answer::Compacted(ops::compaction(lent, *group)?),
+            Line::List(group) => Answer::Listed(listed(ops::list(lent, *group)?)),
+        })
     }
 
-    /// Formats new slices of the right lengths: 'it takes devices with N up to
-    /// 1,024 and 8,192 spare entries, else "refused 1"'. A refused format leaves
-    /// the state as it was.
+    /// Formats new slices of the right lengths. A refused format leaves the state
+    /// as it was.
     fn format(&mut self, numbers: [u32; 4]) -> Result<(), Refusal> {
-        let device = Device::new(numbers)
-            .filter(|device| device.logical_pages <= 1024 && device.spare_length() <= 8192)
-            .ok_or(Refusal::DeviceNumbers)?;
+        let device = Device::new(numbers).ok_or(Refusal::DeviceNumbers)?;
         let mut lent = Lent::fitting(&device);
-        let mut area = vec![NOBODY; device.spare_length()];
+        let mut area = vec![0; device.spare_length()];
         ops::format(&mut lent, &mut area, numbers)?;
         *self = Program { lent, area };
         Ok(())
     }
+}
 
-    /// '6 takes a group, refuses as compaction', and changes nothing.
-    fn list(&self, number: u32) -> Result<Vec<String>, Refusal> {
-        ops::compaction(&mut self.lent.clone(), number)?;
-        let (_, state) = self.lent.open()?;
-        Ok(listing(&state.groups[number as usize]))
-    }
+/// Whether the program takes a device of these numbers.
+fn takes(numbers: [u32; 4]) -> bool {
+    Device::new(numbers)
+        .is_some_and(|device| device.logical_pages <= 1024 && device.spare_length() <= 8192)
 }
 
 /// What the program prints for a whole script; the last line may lack its

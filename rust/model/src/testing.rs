@@ -57,13 +57,18 @@ impl Random {
     }
 }
 
-/// Runs `round` with a generator for each of `base` seeds, times the number in
-/// the environment variable `HEDJOSUR_ROUNDS`; the rounds share `tally`.
-pub fn rounds<T>(base: u64, tally: &mut T, round: impl Fn(&mut Random, &mut CallLog, &mut T)) {
-    let times = std::env::var("HEDJOSUR_ROUNDS").map_or(1, |text| {
+/// What the number of rounds is multiplied by: the number in the environment
+/// variable `HEDJOSUR_ROUNDS`, or 1.
+pub fn multiplier() -> u64 {
+    std::env::var("HEDJOSUR_ROUNDS").map_or(1, |text| {
         text.parse().expect("HEDJOSUR_ROUNDS is a number of rounds")
-    });
-    for seed in 0..base * times {
+    })
+}
+
+/// Runs `round` with a generator for each of `base` seeds, times the
+/// [`multiplier`]; the rounds share `tally`.
+pub fn rounds<T>(base: u64, tally: &mut T, round: impl Fn(&mut Random, &mut CallLog, &mut T)) {
+    for seed in 0..base * multiplier() {
         round(&mut Random::new(seed), &mut CallLog::new(seed), tally);
     }
 }

@@ -1,4 +1,4 @@
-//! Format, flush, lookup, compaction and agreement.
+//! Format, flush, lookup, compaction, agreement and listing.
 
 use hedjosur_model::device::{group_of, offset_of, Device};
 use hedjosur_model::ops::{Flushed, Lookup, Refusal};
@@ -7,7 +7,7 @@ use hedjosur_model::spare::NOBODY;
 use super::spare;
 use super::state::{free_block, is_sound, open, regions, regions_mut, require};
 use crate::group::{self, Part};
-use crate::layout::{state_bytes, HEAD_BYTES};
+use crate::layout::{state_bytes, HEAD_BYTES, LISTING_BYTES, SLOTS_AT, SLOT_BYTES};
 use crate::learn::{runs, Run};
 use crate::offsets::Offsets;
 use crate::sort::{sort_batch, BATCH};
@@ -135,6 +135,21 @@ pub fn compact(state: &mut [u8], number: u32) -> Result<usize, Refusal> {
     let sound = group::sound(part, device.logical_pages, number);
     require(sound, Refusal::NotSound)?;
     Ok(group::compact(part))
+}
+
+/// Writes a group's records, each with its level, to the front of `out`; answers
+/// how many.
+pub fn list(state: &[u8], number: u32, out: &mut [u8]) -> Result<usize, Refusal> {
+    let device = open(state)?;
+    require(out.len() == LISTING_BYTES, Refusal::Length)?;
+    let (_, groups) = regions(&device, state);
+    let part = groups.get(number as usize).ok_or(Refusal::OutOfRange)?;
+    let sound = group::sound(part, device.logical_pages, number);
+    require(sound, Refusal::NotSound)?;
+    let count = group::records(part);
+    let length = SLOT_BYTES * count;
+    out[..length].copy_from_slice(&part[SLOTS_AT..][..length]);
+    Ok(count)
 }
 
 /// Whether two states, each with its spare area, agree.

@@ -6,5 +6,5 @@ mod collect;
 mod spare;
 mod state;
 
-pub use calls::{agree, compact, flush, format, lookup};
+pub use calls::{agree, compact, flush, format, list, lookup};
 pub use collect::collect;

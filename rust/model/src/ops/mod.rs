@@ -6,6 +6,7 @@ mod collection;
 mod compaction;
 mod flush;
 mod format;
+mod list;
 mod lookup;
 
 pub use agreement::agreement;
@@ -13,6 +14,7 @@ pub use collection::{collection, Collected};
 pub use compaction::compaction;
 pub use flush::{flush, Flushed};
 pub use format::format;
+pub use list::list;
 pub use lookup::{lookup, Lookup};
 
 use crate::device::Device;

@@ -1,0 +1,50 @@
+//! The proved calls against the model, through the static library and its
+//! wrapper. Each check tells how many calls it made without a difference.
+
+use hedjosur_conformance::subjects::Exported;
+use hedjosur_conformance::{arguments, histories};
+
+#[test]
+fn cases() {
+    histories::check_cases(&Exported);
+}
+
+#[test]
+fn script() {
+    histories::check_script(&Exported);
+}
+
+#[test]
+fn random_histories() {
+    histories::check_histories(&Exported, 2200);
+}
+
+#[test]
+fn crowded_groups() {
+    histories::check_crowded_groups(&Exported);
+}
+
+#[test]
+fn the_largest_device() {
+    histories::check_largest_device(&Exported);
+}
+
+#[test]
+fn arbitrary_states() {
+    arguments::check_arbitrary_states(&Exported, 2800);
+}
+
+#[test]
+fn wrong_lengths() {
+    arguments::check_wrong_lengths(&Exported);
+}
+
+#[test]
+fn numbers_at_their_limits() {
+    arguments::check_limits(&Exported);
+}
+
+#[test]
+fn arguments_at_their_limits() {
+    arguments::check_arguments(&Exported);
+}

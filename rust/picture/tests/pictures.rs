@@ -1,0 +1,76 @@
+//! The picture program: the guide's pictures are what it makes of the listings,
+//! and bad input is refused.
+
+mod common;
+
+use common::{guide_files, root, run, text};
+
+const PICTURE: &str = env!("CARGO_BIN_EXE_picture");
+
+#[test]
+fn every_picture_is_made_from_its_listing() {
+    for picture in guide_files("svg") {
+        let listing = text(&picture.with_extension("listing"));
+        let output = run(PICTURE, &[], listing.as_bytes());
+        assert!(output.status.success(), "{}", picture.display());
+        let drawn = String::from_utf8(output.stdout).expect("it prints text");
+        assert_eq!(
+            drawn,
+            text(&picture),
+            "{} is not what the program makes of its listing",
+            picture.display()
+        );
+    }
+}
+
+/// Each picture stands in the guide, with words for those who don't see it, and
+/// the guide shows no other.
+#[test]
+fn the_guide_shows_every_picture() {
+    let guide = text(&root().join("docs/GUIDE.md"));
+    let shown: Vec<(&str, &str)> = guide
+        .lines()
+        .filter_map(|line| line.strip_prefix("![")?.strip_suffix(')')?.split_once("]("))
+        .collect();
+    assert_eq!(guide.matches("![").count(), shown.len());
+    for picture in guide_files("svg") {
+        let name = picture.file_name().expect("a file").to_string_lossy();
+        let target = format!("guide/{name}");
+        let words = shown.iter().find(|(_, path)| *path == target);
+        let (words, _) = words.unwrap_or_else(|| panic!("the guide doesn't show {target}"));
+        assert!(words.len() > 20, "{target}: \"{words}\"");
+    }
+    assert_eq!(shown.len(), guide_files("svg").len());
+}
+
+#[test]
+fn bad_input_is_refused_with_a_message() {
+    let head = " LEVEL START  SPAN  WORD INTERCEPT\n";
+    let refused = head.to_string() + "refused 6\n";
+    let cases: [(&[&str], &[u8], &str); 5] = [
+        (&[], b"", "picture: there is no listing: the input is empty\n"),
+        (
+            &[],
+            b"bad line\n",
+            "picture: line 1: a listing starts with the head line \" LEVEL START  SPAN  WORD INTERCEPT\"\n",
+        ),
+        (
+            &[],
+            refused.as_bytes(),
+            "picture: line 2: \"refused 6\" is not a record: \
+             five numbers, right-justified in widths 6, 6, 6, 6 and 10\n",
+        ),
+        (&[], b"\xff\n", "picture: the input is not text\n"),
+        (
+            &["group.listing"],
+            head.as_bytes(),
+            "picture: it reads a listing on standard input and takes no argument\n",
+        ),
+    ];
+    for (arguments, input, message) in cases {
+        let output = run(PICTURE, arguments, input);
+        assert_eq!(String::from_utf8_lossy(&output.stderr), message);
+        assert_eq!(output.status.code(), Some(1), "{message}");
+        assert!(output.stdout.is_empty(), "{message}");
+    }
+}
