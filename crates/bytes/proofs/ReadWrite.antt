@@ -1,15 +1,15 @@
 -- Numbers read from bytes that are alike, read back after a write, and bounded: digit by digit. Assumes nothing.
 use mathlib.Core.Path.{_≡_, refl, ap, _∙_}
-use mathlib.Core.List.{List, [], _∷_}
+use mathlib.Core.List.{List}
 use Prim.Native.Nat.{ℕ, _+_, _≤_, _<_}
 use native.Mathlib.Omega.{arith}
 use lib.ListN.{length, getD}
 use lib.IntN.{ℤ}
 use mir.Syntax.{w32}
 use mir.Val.{SFits}
-use mir.Facts.{toZ-ofZ, fits-ofZ, fits-lt-pow}
+use mir.Facts.{fits-ofZ, fits-lt-pow}
 use Rattle.model.specs.Lists.{store}
-use Rattle.bytes.specs.Little.{le16, le32, signed32, le32s, bits32, bytes2, bytes4}
+use Rattle.bytes.specs.Little.{le16, le32, signed32, le32s, bits32, bytes2}
 use Rattle.bytes.proofs.Same.{Same, same-first, same-inner, stored-at}
 
 -- numbers whose bytes are alike are equal
@@ -41,39 +41,12 @@ pub length-bytes2 : (v : ℕ) → length (bytes2 v) ≡ 2
 unfolding bytes2
 length-bytes2 v = refl
 
-pub length-bytes4 : (v : ℕ) → length (bytes4 v) ≡ 4
-unfolding bytes4
-length-bytes4 v = refl
-
--- what was written is read back
-pub byte-stored : (s : List ℕ) (p v : ℕ) → p < length s → getD (store s p (v ∷ [])) p 0 ≡ v
-byte-stored s p v h = byte-same (stored-at s p (v ∷ []) (omega arith))
-
 pub le16-stored : (s : List ℕ) (p v : ℕ) → p + 2 ≤ length s → v < 65536 → le16 (store s p (bytes2 v)) p ≡ v
 unfolding le16 bytes2
 le16-stored s p v h k =
     let d : le16 (bytes2 v) 0 ≡ v = omega arith in
     le16-same (stored-at s p (bytes2 v) h) ∙ d
 
-pub le32-stored : (s : List ℕ) (p v : ℕ) → p + 4 ≤ length s → v < 4294967296 → le32 (store s p (bytes4 v)) p ≡ v
-unfolding le16 le32 bytes4
-le32-stored s p v h k =
-    let d : le32 (bytes4 v) 0 ≡ v = omega arith in
-    le32-same (stored-at s p (bytes4 v) h) ∙ d
-
 pub bits32-bound : (z : ℤ) → SFits w32 z → bits32 z < 4294967296
 unfolding bits32
 bits32-bound z f = fits-lt-pow (fits-ofZ f)
-
-pub le32s-stored : (s : List ℕ) (p : ℕ) (z : ℤ) → p + 4 ≤ length s → SFits w32 z → le32s (store s p (bytes4 (bits32 z))) p ≡ z
-unfolding le32s signed32 bits32
-le32s-stored s p z h f = ap signed32 (le32-stored s p (bits32 z) h (bits32-bound z f)) ∙ toZ-ofZ f
-
--- numbers read from bytes below 256 fit their width
-pub le16-bound : (s : List ℕ) (p : ℕ) → ((i : ℕ) → getD s i 0 < 256) → le16 s p < 65536
-unfolding le16
-le16-bound s p b = omega (arith, b p, b (p + 1))
-
-pub le32-bound : (s : List ℕ) (p : ℕ) → ((i : ℕ) → getD s i 0 < 256) → le32 s p < 4294967296
-unfolding le32
-le32-bound s p b = omega (arith, le16-bound s p b, le16-bound s (p + 2) b)

@@ -38,12 +38,6 @@ stored-below n s p vs q h = record { each = λ k l. getD-store-below s p vs (q +
 pub stored-above : (n : ℕ) (s : List ℕ) (p : ℕ) (vs : List ℕ) (q : ℕ) → p + length vs ≤ q → Same n (store s p vs) q s q
 stored-above n s p vs q h = record { each = λ k l. getD-store-above s p vs (q + k) 0 (omega arith) }
 
-pub stored-in : (n : ℕ) (s : List ℕ) (p : ℕ) (vs : List ℕ) (k : ℕ) → k + n ≤ length vs → p + length vs ≤ length s → Same n (store s p vs) (p + k) vs k
-stored-in n s p vs k h room = record { each = each }
-  where
-    each : (j : ℕ) → j < n → getD (store s p vs) (p + k + j) 0 ≡ getD vs (k + j) 0
-    each j l = let e : p + k + j ≡ p + (k + j) = omega arith in rw e (getD-store s p vs (k + j) 0 (omega arith) (omega arith))
-
 pub stored-at : (s : List ℕ) (p : ℕ) (vs : List ℕ) → p + length vs ≤ length s → Same (length vs) (store s p vs) p vs 0
 stored-at s p vs room = record { each = each }
   where

@@ -1,43 +1,23 @@
 -- An array of slots after bytes of the list changed: slot by slot, by induction on the slots before the change. Assumes nothing.
-use mathlib.Core.Path.{_≡_, refl, sym, ap, _∙_}
-use mathlib.Core.List.{List, []}
+use mathlib.Core.Path.{_≡_, refl, _∙_}
+use mathlib.Core.List.{List}
 use Prim.Native.Nat.{ℕ, zero, suc, _+_, _-_, _*_, _≤_, _<_}
 use native.Mathlib.Omega.{arith}
 use native.Mathlib.Nat.{mul-le-mul-right}
 use native.Mathlib.Numerals.{add-one}
-use lib.ListN.{length, getD, set, take, drop}
+use lib.ListN.{length, set, take, drop}
 use lib.Seq.{take-all}
 use Rattle.model.specs.Lists.{store}
 use Rattle.model.proofs.Lists.{length-store}
 use Rattle.bytes.specs.Slots.{movedUp, movedDown, slotAt, slots, insertAt, removeAt}
-use Rattle.bytes.proofs.Stores.{store-all, part-store}
-use Rattle.bytes.proofs.Same.{Same, same-first, same-inner, same-then, part-in, length-part, part-same, stored-below, stored-above, stored-at}
-use Rattle.bytes.proofs.Moves.{length-movedUp, length-movedDown, movedUp-moved, movedUp-below, movedUp-above, movedDown-moved, movedDown-below}
+use Rattle.bytes.proofs.Stores.{part-store}
+use Rattle.bytes.proofs.Same.{Same, same-first, same-inner, same-then, length-part, part-same, stored-below, stored-above, stored-at}
+use Rattle.bytes.proofs.Moves.{length-movedUp, length-movedDown, movedUp-moved, movedUp-below, movedDown-moved, movedDown-below}
 
 -- a slot inside the list is as long as its width
 pub length-slotAt : (w b : ℕ) (s : List ℕ) (i : ℕ) → b + (i + 1) * w ≤ length s → length (slotAt w b s i) ≡ w
 unfolding slotAt
 length-slotAt w b s i h = length-part s (b + i * w) w (omega arith)
-
--- in a slot stand the bytes of the list
-pub slot-in : (n w b : ℕ) (s : List ℕ) (i k : ℕ) → k + n ≤ w → Same n (slotAt w b s i) k s (b + i * w + k)
-unfolding slotAt
-slot-in n w b s i k h = part-in n s (b + i * w) w k h
-
--- as many slots as were asked for
-pub length-slots : (w b n : ℕ) (s : List ℕ) → length (slots w b n s) ≡ n
-unfolding slots
-length-slots w b zero s = refl
-length-slots w b (suc n) s = ap suc (length-slots w (b + w) n s)
-
--- slot i of the array
-pub getD-slots : (w b n : ℕ) (s : List ℕ) (i : ℕ) → i < n → getD (slots w b n s) i [] ≡ slotAt w b s i
-unfolding slots slotAt
-getD-slots w b zero s i h = absurd (omega arith)
-getD-slots w b (suc n) s zero h = refl
-getD-slots w b (suc n) s (suc i) h =
-    let e : b + w + i * w ≡ b + suc i * w = omega arith in
-    getD-slots w (b + w) n s i (omega arith) ∙ ap (λ (p : ℕ). take w (drop p s)) e
 
 -- arrays whose bytes are alike are equal
 pub slots-same : {s t : List ℕ} {p q : ℕ} (w n : ℕ) → Same (n * w) s p t q → p + n * w ≤ length s → q + n * w ≤ length t → slots w p n s ≡ slots w q n t
@@ -60,9 +40,6 @@ module _ (w : ℕ) (s v : List ℕ) (from to : ℕ) (long : length v ≡ w) (ord
 
   pub opened-below : (n q : ℕ) → q + n ≤ from → Same n (store (movedUp s from to w) from v) q s q
   opened-below n q h = same-then (stored-below n (movedUp s from to w) from v q h) (movedUp-below s from to w ordered inside n q (omega arith))
-
-  pub opened-above : (n q : ℕ) → to + w ≤ q → Same n (store (movedUp s from to w) from v) q s q
-  opened-above n q h = same-then (stored-above n (movedUp s from to w) from v q (omega arith)) (movedUp-above s from to w ordered inside n q h)
 
   opened-moved : Same (to - from) filled (from + w) s from
   opened-moved = same-then (stored-above (to - from) (movedUp s from to w) from v (from + w) (omega arith)) (movedUp-moved s from to w ordered inside)
@@ -137,15 +114,3 @@ pub slots-store : (w b n : ℕ) (s : List ℕ) (i k : ℕ) (vs : List ℕ) → k
     → slots w b n (store s (b + i * w + k) vs) ≡ set (slots w b n s) i (store (slotAt w b s i) k vs)
 unfolding slotAt
 slots-store w b n s i k vs fits h inside = change-from w s k vs fits (b + i * w) i n b h refl inside
-
--- a store over slot i
-pub slots-put : (w b n : ℕ) (s : List ℕ) (i : ℕ) (v : List ℕ) → length v ≡ w → i < n → b + n * w ≤ length s
-    → slots w b n (store s (b + i * w) v) ≡ set (slots w b n s) i v
-unfolding slotAt
-slots-put w b n s i v long h inside =
-    let e : b + i * w ≡ b + i * w + 0 = omega arith in
-    let k : i + 1 ≤ n = omega arith in
-    let here : length (slotAt w b s i) ≡ w = length-slotAt w b s i (omega (arith, mul-le-mul-right w k)) in
-    ap (λ (p : ℕ). slots w b n (store s p v)) e
-    ∙ slots-store w b n s i 0 v (omega arith) h inside
-    ∙ ap (λ (l : List ℕ). set (slots w b n s) i l) (store-all (slotAt w b s i) v (long ∙ sym here))

@@ -3,10 +3,9 @@ use mathlib.Core.Path.{_≡_, refl, sym, ap, _∙_}
 use mathlib.Core.List.{List, [], _∷_, _++_}
 use Prim.Native.Nat.{ℕ, zero, suc, _+_, _≤_}
 use native.Mathlib.Omega.{arith}
-use lib.ListN.{length, set, take, drop, length-drop}
-use lib.Seq.{length-take-le, drop-drop}
+use lib.ListN.{length, set, take, drop}
+use lib.Seq.{drop-drop}
 use Rattle.model.specs.Lists.{store}
-use Rattle.model.proofs.Lists.{length-store}
 
 module _ {A : Type 0} where
   -- nothing stored changes nothing
@@ -79,26 +78,6 @@ module _ {A : Type 0} where
   pub part-store : (n a : ℕ) (s : List A) (p : ℕ) (vs : List A) → take n (drop a (store s (a + p) vs)) ≡ store (take n (drop a s)) p vs
   part-store n a s p vs = ap (λ (l : List A). take n l) (drop-store a s p vs) ∙ take-store n (drop a s) p vs
 
-  store-front : (n : ℕ) (s : List A) (p : ℕ) (vs : List A) → p + length vs ≤ n → store s 0 (store (take n s) p vs) ≡ store s p vs
-  unfolding store
-  store-front n [] p vs h = refl
-  store-front zero (x ∷ s) zero [] h = refl
-  store-front zero (x ∷ s) zero (v ∷ vs) h = absurd (omega arith)
-  store-front zero (x ∷ s) (suc p) vs h = absurd (omega arith)
-  store-front (suc n) (x ∷ s) zero [] h =
-      ap (λ (l : List A). x ∷ store s 0 l) (sym (store-nil (take n s) 0)) ∙ ap (λ (l : List A). x ∷ l) (store-front n s 0 [] (omega arith) ∙ store-nil s 0)
-  store-front (suc n) (x ∷ s) zero (v ∷ vs) h = ap (λ (l : List A). v ∷ l) (store-front n s 0 vs (omega arith))
-  store-front (suc n) (x ∷ s) (suc p) vs h = ap (λ (l : List A). x ∷ l) (store-front n s p vs (omega arith))
-
-  -- a part stored back after a store in it: a store in the whole
-  pub store-part : (n a : ℕ) (s : List A) (p : ℕ) (vs : List A) → p + length vs ≤ n → store s a (store (take n (drop a s)) p vs) ≡ store s (a + p) vs
-  unfolding store
-  store-part n zero s p vs h = let e : 0 + p ≡ p = omega arith in rw e (store-front n s p vs h)
-  store-part n (suc a) [] p vs h = refl
-  store-part n (suc a) (x ∷ s) p vs h =
-      let e : suc a + p ≡ suc (a + p) = omega arith in
-      rw e (ap (λ (l : List A). x ∷ l) (store-part n a s p vs h))
-
   -- a part replaced by t: t stored
   pub replaced : (a : ℕ) (s t : List A) → a + length t ≤ length s → take a s ++ (t ++ drop (a + length t) s) ≡ store s a t
   unfolding store
@@ -117,11 +96,3 @@ module _ {A : Type 0} where
   lent-back n a s t e h =
       let d : drop n (drop a s) ≡ drop (a + length t) s = rw e (drop-drop n a s) in
       rw d (replaced a s t (omega arith))
-
-  -- a store in a part that was lent: a store in the whole
-  pub lent-store : (n a : ℕ) (s t : List A) (p : ℕ) (vs : List A) → t ≡ store (take n (drop a s)) p vs → p + length vs ≤ n → a + n ≤ length s
-      → take a s ++ (t ++ drop n (drop a s)) ≡ store s (a + p) vs
-  lent-store n a s t p vs e h k =
-      let part : length (take n (drop a s)) ≡ n = length-take-le n (drop a s) (rw (length-drop a s) (omega arith)) in
-      let long : length t ≡ n = rw e (length-store (take n (drop a s)) p vs ∙ part) in
-      lent-back n a s t long k ∙ rw e (store-part n a s p vs h)

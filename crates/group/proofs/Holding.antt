@@ -21,7 +21,7 @@ use Rattle.group.specs.Reading.{recordOf, placedOf, named, known, cohere
 use Rattle.group.specs.Held.{slotFor, slotsFor, ownerAmong, Held}
 use Rattle.group.proofs.Cases.{owner-none}
 use Rattle.group.proofs.Cutting.{cut-flat, climbs-flat}
-use Rattle.group.proofs.Slots.{length-slotsOf, parts-coherent, listing-read, slots-read, encoded, read-is}
+use Rattle.group.proofs.Slots.{parts-coherent, listing-read, slots-read, encoded, read-is}
 use Rattle.group.proofs.Members.{In, here, there, in-map, map-map, map-same, all-in, Named, named-of, named-here, named-there, every-of, of-every}
 use Rattle.group.proofs.Shapes.{owned-if, if-owned}
 use Rattle.group.proofs.Soundness.{sound-encodes}
@@ -41,9 +41,6 @@ items-from n (l ∷ g) = items-level n l (flatFrom (suc n) g) ∙ ap (λ (m : Li
 pub length-slotsFor : (g : Group) → length (slotsFor g) ≡ recordCount g
 unfolding recordCount
 length-slotsFor g = length-map (flat g) slotFor ∙ sym (length-map (flat g) (λ p. p .item)) ∙ ap length (items-from 0 g)
-
-pub held-used : (b : List ℕ) (g : Group) → Held b g → usedOf b ≡ recordCount g
-held-used b g h = sym (length-slotsOf b) ∙ ap length (h .slots) ∙ length-slotsFor g
 
 -- an approximate record of the list has a slot that names its start
 named-record : (r : Record) (l : List Placed) → In r (map (λ p. p .item) l) → isApproximate (kind r) ≡ true → named (r .start) (map slotFor l) ≡ true

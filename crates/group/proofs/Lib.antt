@@ -1,6 +1,5 @@
 pub mod Cutting
 pub mod Slots
-pub mod Packed
 pub mod Cases
 pub mod Members
 pub mod Ends
@@ -13,6 +12,5 @@ pub mod Table
 pub mod Soundness
 pub mod Tests
 pub mod Turns
-pub mod Agreement
 pub mod Owned
 pub mod Holding

@@ -51,10 +51,6 @@ slotLevel b i = le16 b (levelPlace i)
 unfoldable pub slotOf : List ℕ → ℕ → Slot
 slotOf b i = record { level = slotLevel b i; held = slotRecord b i }
 
--- the same of a slot's ten bytes by themselves
-unfoldable pub slotIn : List ℕ → Slot
-slotIn v = record { level = le16 v 8; held = recordAt v 0 }
-
 -- the n slots from slot i on
 unfoldable pub slotsFrom : List ℕ → ℕ → ℕ → List Slot
 slotsFrom b i zero = []

@@ -1,5 +1,5 @@
 -- The free and the used blocks: which they are, how many, and how the number of free ones changes. Assumes nothing.
-use mathlib.Core.Path.{_≡_, refl, sym, _∙_, ap}
+use mathlib.Core.Path.{_≡_, refl, ap}
 use mathlib.Core.List.{List, [], _∷_}
 use mathlib.Core.Logic.{_≢_, _⊎_, inl, inr}
 use mathlib.Core.Bool.{Bool, true, false, not}
@@ -8,11 +8,10 @@ use native.Mathlib.Omega.{arith}
 use native.Mathlib.Nat.{le-refl}
 use lib.Dec.{eqb}
 use lib.ListN.{length, getD, set}
-use lib.Seq.{set-getD}
-use borrow.Author.Tests.{eqb-true, eqb-false, eq-eqb, ne-eqb, not-true}
+use borrow.Author.Tests.{eqb-true, eqb-false, ne-eqb, not-true}
 use Rattle.model.specs.Lists.{elem}
 use Rattle.model.specs.State.{State, freeBlocks, usedBlocks, lowestFree}
-use Rattle.model.proofs.Lists.{elem-cons, elem-here, elem-there, no-elem, elem-getD, Asc, end, next, asc-lower}
+use Rattle.model.proofs.Lists.{elem-cons, no-elem, elem-getD, Asc, end, next, asc-lower}
 
 -- the blocks whose count passes a test, the first count being block k's
 blocksWith : (ℕ → Bool) → ℕ → List ℕ → List ℕ
@@ -68,19 +67,6 @@ with-only t k (c ∷ cs) o h = go (t c) refl (λ q. with-only t (suc k) cs o q)
     go true e ih = first e ih (elem-cons o k (blocksWith t (suc k) cs) (rw (e, blocksWith) at h))
     go false e ih = later (ih (rw (e, blocksWith) at h))
 
-with-every : (t : ℕ → Bool) (k : ℕ) (cs : List ℕ) (i : ℕ) → i < length cs → t (getD cs i 0) ≡ true → elem (k + i) (blocksWith t k cs) ≡ true
-unfolding blocksWith
-with-every t k [] i h e = absurd (omega arith)
-with-every t k (c ∷ cs) zero h e = let z : k + 0 ≡ k = omega arith in rw (z, e, blocksWith) (elem-here k (blocksWith t (suc k) cs))
-with-every t k (c ∷ cs) (suc i) h e = go (t c) refl (with-every t (suc k) cs i (omega arith) e)
-  where
-    z : k + suc i ≡ suc k + i
-    z = omega arith
-
-    go : (b : Bool) → t c ≡ b → elem (suc k + i) (blocksWith t (suc k) cs) ≡ true → elem (k + suc i) (blocksWith t k (c ∷ cs)) ≡ true
-    go true f ih = rw (f, z, blocksWith) (elem-there (suc k + i) k (blocksWith t (suc k) cs) ih)
-    go false f ih = rw (f, z, blocksWith) ih
-
 with-asc : (t : ℕ → Bool) (k : ℕ) (cs : List ℕ) → Asc k (blocksWith t k cs)
 unfolding blocksWith
 with-asc t k [] = end
@@ -98,13 +84,6 @@ free-only cs k h =
     let z : k - 0 ≡ k = omega arith in
     (omega (arith, p .below), eqb-true (getD cs k 0) 0 (rw z at (p .passes)))
 
--- A block whose count is 0 is free.
-pub free-every : (cs : List ℕ) (k : ℕ) → k < length cs → getD cs k 0 ≡ 0 → elem k (freeBlocks 0 cs) ≡ true
-unfolding isFree
-free-every cs k h e =
-    let z : 0 + k ≡ k = omega arith in
-    rw (free-are 0 cs) (rw z at (with-every isFree 0 cs k h (eq-eqb (getD cs k 0) 0 e)))
-
 -- A used block is a block, and its count isn't 0.
 pub used-only : (cs : List ℕ) (k : ℕ) → elem k (usedBlocks 0 cs) ≡ true → (k < length cs) × (getD cs k 0 ≢ 0)
 unfolding isUsed
@@ -112,17 +91,6 @@ used-only cs k h =
     let p : Passes isUsed 0 cs k = with-only isUsed 0 cs k (rw (used-are 0 cs) at h) in
     let z : k - 0 ≡ k = omega arith in
     (omega (arith, p .below), eqb-false (getD cs k 0) 0 (not-true (eqb (getD cs k 0) 0) (rw z at (p .passes))))
-
--- A block whose count isn't 0 is used.
-pub used-every : (cs : List ℕ) (k : ℕ) → k < length cs → getD cs k 0 ≢ 0 → elem k (usedBlocks 0 cs) ≡ true
-unfolding isUsed
-used-every cs k h n =
-    let z : 0 + k ≡ k = omega arith in
-    rw (used-are 0 cs) (rw z at (with-every isUsed 0 cs k h (ap not (ne-eqb (getD cs k 0) 0 n))))
-
--- The free blocks ascend.
-pub free-asc : (cs : List ℕ) → Asc 0 (freeBlocks 0 cs)
-free-asc cs = rw (free-are 0 cs) (with-asc isFree 0 cs)
 
 -- The used blocks ascend.
 pub used-asc : (cs : List ℕ) → Asc 0 (usedBlocks 0 cs)
@@ -180,7 +148,3 @@ free-fill cs k n h e m =
 pub free-clear : (cs : List ℕ) (k : ℕ) → k < length cs → getD cs k 0 ≢ 0 → length (freeBlocks 0 (set cs k 0)) ≡ suc (length (freeBlocks 0 cs))
 unfolding freeCount
 free-clear cs k h m = omega (arith, free-set 0 cs k 0 h, used-count (getD cs k 0) m)
-
--- A free block whose count becomes 0 changes nothing.
-pub free-again : (cs : List ℕ) (k : ℕ) → getD cs k 0 ≡ 0 → set cs k 0 ≡ cs
-free-again cs k e = ap (set cs k) (sym e) ∙ set-getD cs k 0

@@ -40,10 +40,6 @@ module _ {A : Type 0} (t : A → Bool) where
   unfolding all
   all-cons x l h k = and-i (t x) (all t l) h k
 
-  pub all-append : (l m : List A) → all t l ≡ true → all t m ≡ true → all t (l ++ m) ≡ true
-  all-append [] m h k = k
-  all-append (x ∷ l) m h k = all-cons x (l ++ m) (all-head x l h) (all-append l m (all-tail x l h) k)
-
   pub all-left : (l m : List A) → all t (l ++ m) ≡ true → all t l ≡ true
   unfolding all
   all-left [] m h = refl

@@ -65,13 +65,6 @@ distinct-append (x ∷ l) m h k f =
     out (inl q) = true≢false (sym q ∙ distinct-head x l h)
     out (inr q) = f x (elem-here x l) q
 
--- Of distinct appended lists the first is distinct.
-pub distinct-left : (l m : List ℕ) → distinct (l ++ m) ≡ true → distinct l ≡ true
-unfolding distinct
-distinct-left [] m h = refl
-distinct-left (x ∷ l) m h =
-    distinct-cons x l (is-false (elem x l) (λ q. true≢false (sym (elem-left x l m q) ∙ distinct-head x (l ++ m) h))) (distinct-left l m (distinct-tail x (l ++ m) h))
-
 -- So is the second.
 pub distinct-right : (l m : List ℕ) → distinct (l ++ m) ≡ true → distinct m ≡ true
 distinct-right [] m h = h

@@ -25,10 +25,6 @@ unfolding met holder
 met-line o [] = refl
 met-line o (r ∷ l) = ap (orElse (member r o) (lineOf r)) (met-line o l) ∙ sym (line-orElse (member r o) r (holder o l))
 
--- Where no record has the offset, no line is met.
-pub holder-none : (o : ℕ) (l : List Record) → holder o l ≡ none → met o l ≡ none
-holder-none o l h = met-line o l ∙ ap lineOfAny h
-
 -- Where no line is met, no record has the offset.
 pub met-none : (o : ℕ) (l : List Record) → met o l ≡ none → holder o l ≡ none
 met-none o l h = go (holder o l) refl (sym (met-line o l) ∙ h)

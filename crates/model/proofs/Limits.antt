@@ -4,7 +4,7 @@ use mathlib.Core.Logic.{_≢_}
 use mathlib.Core.Bool.{Bool, true, false}
 use Prim.Native.Nat.{ℕ, _+_, _*_, _-_, _/_, _%_, _≤_, _<_}
 use native.Mathlib.Omega.{arith}
-use native.Mathlib.Nat.{mul-le-mul-left, mul-le-mul-right, mul-add-div-right, mul-add-mod-self-right, div-eq-of-lt, mod-eq-of-lt, mod-lt, div-add-mod', div-lt-iff-lt-mul}
+use native.Mathlib.Nat.{mul-le-mul-left, mul-le-mul-right, mul-add-div-right, div-eq-of-lt, mod-lt, div-add-mod'}
 use lib.Dec.{ltb}
 use borrow.Author.Tests.{leb-true, le-leb, ltb-true, ltb-false}
 use Rattle.model.specs.Device.{Device, withinLimits, pages, firstPage, groupOf, groupCount, entriesPerPage, entriesPerBlock, spareLength}
@@ -61,11 +61,6 @@ page-block d k i h =
     let e : i / d .B ≡ 0 = div-eq-of-lt h in
     mul-add-div-right b k i ∙ rw e (omega arith)
 
--- A page's place in its block is the one it was counted from the block's first page.
-pub page-place : (d : Device) (k i : ℕ) → i < d .B → (firstPage d k + i) % d .B ≡ i
-unfolding firstPage
-page-place d k i h = mul-add-mod-self-right k (d .B) i ∙ mod-eq-of-lt h
-
 -- Pages of two blocks are two pages.
 pub page-apart : (d : Device) (k k′ i i′ : ℕ) → k′ ≢ k → i < d .B → i′ < d .B → firstPage d k′ + i′ ≢ firstPage d k + i
 page-apart d k k′ i i′ n h h′ e = n (sym (page-block d k′ i′ h′) ∙ ap (λ (p : ℕ). p / d .B) e ∙ page-block d k i h)
@@ -78,11 +73,6 @@ some-page d p h = go (ltb 0 (d .B)) refl
     go : (t : Bool) → ltb 0 (d .B) ≡ t → 0 < d .B
     go true e = ltb-true 0 (d .B) e
     go false e = absurd (omega (arith, mul-le-mul-left (d .M) (ltb-false 0 (d .B) e)))
-
--- Every page of the device lies in a block of the device ..
-pub block-inside : (d : Device) (p : ℕ) → p < pages d → p / d .B < d .M
-unfolding pages
-block-inside d p h = div-lt-iff-lt-mul (some-page d p h) .1 h
 
 -- .. at a place in that block ..
 pub place-inside : (d : Device) (p : ℕ) → p < pages d → p % d .B < d .B

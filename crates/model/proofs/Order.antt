@@ -10,7 +10,7 @@ use lib.Dec.{ltb, leb, eqb}
 use borrow.Author.Tests.{leb-true, ltb-true, ltb-false, eqb-true, le-leb}
 use Rattle.model.specs.Lists.{all, elem, ascending, lastOf}
 use Rattle.model.specs.Record.{Record, Kind, single, accurate, approximate, kind, isApproximate, end, memberAs, member}
-use Rattle.model.specs.Levels.{Level, Group, listing, meetsAny, shrink, keep, giveUp, giveUpAll, filled, into, Fate, stays, sinks, goes, fate, staying, sinking, stayers, sinkers, sink, sinkAll, insertTop, insert, insertAll, memberOfAny, shrinkAll, depthOver, depth, putAt, putBack, compact}
+use Rattle.model.specs.Levels.{Level, Group, listing, meetsAny, shrink, keep, giveUp, giveUpAll, filled, into, Fate, stays, sinks, goes, fate, staying, sinking, stayers, sinkers, sink, sinkAll, insertTop, insert, memberOfAny, shrinkAll, depthOver, depth, putAt, putBack, compact}
 use Rattle.model.specs.Sound.{ownsItsEnds, soundAs, soundRecord, ordered}
 use Rattle.model.proofs.Bools.{and-l, and-r, and-i, all-head, all-tail, all-cons, all-left, all-right}
 use Rattle.model.proofs.Lists.{Asc, asc-of, asc-head, asc-top}
@@ -208,12 +208,6 @@ insertTop-chains r (l ∷ g) w c =
 pub insert-chains : (r : Record) (g : Group) → Within r → Chains g → Chains (insert r g)
 unfolding insert
 insert-chains r g w c = insertTop-chains r (giveUpAll r g) w (giveUpAll-chains r g c)
-
--- inserting one record after the other does
-pub insertAll-chains : (rs : List Record) (g : Group) → AllWithin rs → Chains g → Chains (insertAll rs g)
-unfolding insertAll
-insertAll-chains [] g w c = c
-insertAll-chains (r ∷ rs) g w c = insertAll-chains rs (insert r g) (w .1) (insert-chains r g (w .0) c)
 
 -- the ranges of shrunk records hold their members
 pub shrinkAll-within : (above l : List Record) → AllWithin l → AllWithin (shrinkAll above l)

@@ -10,7 +10,7 @@ use Rattle.model.specs.Record.{Record}
 use Rattle.model.specs.Learning.{Run, recordsFor}
 use Rattle.model.specs.Levels.{Group, listing, recordCount, compact, groupLimit, takeIn, takeInAll}
 use Rattle.model.proofs.Line.{met, overlay}
-use Rattle.model.proofs.Order.{Chains, AllWithin, insertAll-chains, compact-chains}
+use Rattle.model.proofs.Order.{Chains, AllWithin, compact-chains}
 use Rattle.model.proofs.Insertion.{insertAll-met}
 use Rattle.model.proofs.Compaction.{compact-met}
 
@@ -22,15 +22,6 @@ takeIn-met rs o b g w c = go (ltb groupLimit (recordCount g + length rs)) refl
     go : (t : Bool) → ltb groupLimit (recordCount g + length rs) ≡ t → met o (listing (takeIn rs g)) ≡ overlay o rs (met o (listing g))
     go true e = rw (e, takeIn) (insertAll-met rs o b (compact g) w (compact-chains g c) ∙ ap (overlay o rs) (compact-met o b g c))
     go false e = rw (e, takeIn) (insertAll-met rs o b g w c)
-
--- Taking in records keeps levels in order.
-pub takeIn-chains : (rs : List Record) (g : Group) → AllWithin rs → Chains g → Chains (takeIn rs g)
-unfolding takeIn
-takeIn-chains rs g w c = go (ltb groupLimit (recordCount g + length rs)) refl
-  where
-    go : (t : Bool) → ltb groupLimit (recordCount g + length rs) ≡ t → Chains (takeIn rs g)
-    go true e = rw (e, takeIn) (insertAll-chains rs (compact g) w (compact-chains g c))
-    go false e = rw (e, takeIn) (insertAll-chains rs g w c)
 
 -- There are as many groups as before.
 pub takeInAll-length : (k : ℕ) (rs : List Run) (gs : List Group) → length (takeInAll k rs gs) ≡ length gs

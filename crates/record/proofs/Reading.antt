@@ -1,5 +1,5 @@
--- The struct and the record that it stands for, there and back; and what an answer of shrinking says of the record. Assumes nothing.
-use mathlib.Core.Path.{_≡_, refl}
+-- What an answer of shrinking says of the record that the struct stands for. Assumes nothing.
+use mathlib.Core.Path.{_≡_}
 use mathlib.Core.List.{List, [], _∷_}
 use mathlib.Core.Option.{Option, Option·map}
 use mathlib.Core.Bool.{Bool, true, false, not, _&&_}
@@ -10,12 +10,6 @@ use Rattle.model.specs.Record.{kind, isApproximate, member}
 use Rattle.model.specs.Levels.{shrunkTo, shrunkToAny, shrink}
 use Rattle.record.specs.declared.Record.{Record}
 use Rattle.record.specs.Read.{asRecord, bare}
-
-pub bare-asRecord : (r : Record) (owned : List ℕ) → bare (asRecord r owned) ≡ r
-bare-asRecord r owned = refl
-
-pub asRecord-bare : (r : model.Record) → asRecord (bare r) (r .owned) ≡ r
-asRecord-bare r = refl
 
 -- what is left of a record, from its four numbers: a single or accurate one owns nothing, an approximate one what it keeps
 module _ (lost : ℕ → Bool) (r : model.Record) (x : Option Record) (is : x ≡ Option·map bare (shrink lost r)) where

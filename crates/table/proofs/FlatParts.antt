@@ -45,15 +45,3 @@ pub flat-inside : (p : Level) (x : Record) (b : Level) (g : Group) → length p 
 unfolding flatFrom
 flat-inside [] x b g = omega arith
 flat-inside (r ∷ p) x b g = omega (arith, flat-inside p x b g)
-
-other-level : (n : ℕ) (g : Group) → 0 < length (flatFrom (suc n) g) → getD (flatFrom (suc n) g) 0 noSlot .level ≡ 0 → ⊥
-unfolding flatFrom
-other-level n [] h e = omega arith
-other-level n ([] ∷ g) h e = other-level (suc n) g h e
-other-level n ((r ∷ l) ∷ g) h e = omega arith
-
--- behind all of level 0 stands a slot of another level, if any
-pub flat-end : (p : Level) (g : Group) → length p < length (flat (p ∷ g)) → getD (flat (p ∷ g)) (length p) noSlot .level ≡ 0 → ⊥
-unfolding flatFrom
-flat-end [] g h e = other-level 0 g h e
-flat-end (r ∷ p) g h e = flat-end p g (omega arith) e

@@ -8,14 +8,14 @@ use native.Mathlib.Omega.{arith}
 use lib.Dec.{eqb}
 use borrow.Author.Tests.{eq-eqb, ne-eqb}
 use Rattle.model.specs.Lists.{all}
-use Rattle.model.specs.Record.{Record, kind, isApproximate, member}
-use Rattle.model.specs.Levels.{Level, Group, shrink, keep, giveUp, giveUpAll, filled}
+use Rattle.model.specs.Record.{Record, kind, isApproximate}
+use Rattle.model.specs.Levels.{Level, Group, shrink, keep, giveUp, filled}
 use Rattle.model.specs.Sound.{isFilled}
 use Rattle.model.proofs.Bools.{all-head, all-tail}
 use Rattle.group.specs.Cutting.{Placed, flatFrom, flat}
 use Rattle.table.specs.Flat.{tag}
 use Rattle.table.specs.Slots.{slot, keepSlot}
-use Rattle.table.specs.InsertSlots.{given, giveUpSlots, renumber, settle, clearSlots}
+use Rattle.table.specs.InsertSlots.{given, giveUpSlots, renumber, settle}
 
 -- a record that isn't approximate stays whole
 pub given-other : (lost : ℕ → Bool) (r : Record) → isApproximate (kind r) ≡ false → given lost r ≡ some r
@@ -101,21 +101,8 @@ filled-same [] h = refl
 filled-same ([] ∷ g) h = absurd (true≢false (sym (all-head isFilled [] g h)))
 filled-same ((r ∷ l) ∷ g) h = ap (λ (k : Group). (r ∷ l) ∷ k) (filled-same g (all-tail isFilled (r ∷ l) g h))
 
-cleared-same : (g : Group) → all isFilled g ≡ true → g ≡ cleared g
-cleared-same [] h = refl
-cleared-same (l ∷ g) h = ap (λ (k : Group). l ∷ k) (sym (filled-same g (all-tail isFilled l g h)))
-
 -- renumbered
 pub settle-cleared : (g : Group) → settle 0 0 (flat g) ≡ flat (cleared g)
 unfolding settle flatFrom
 settle-cleared [] = refl
 settle-cleared (l ∷ g) = settle-flat l g
-
--- The slots, once the approximate records have given up r's offsets, are the group's levels that have.
-pub clear-flat : (r : Record) (g : Group) → all isFilled g ≡ true → clearSlots r (flat g) ≡ flat (cleared (giveUpAll r g))
-unfolding clearSlots giveUpAll
-clear-flat r g h = go (isApproximate (kind r)) refl
-  where
-    go : (t : Bool) → isApproximate (kind r) ≡ t → clearSlots r (flat g) ≡ flat (cleared (giveUpAll r g))
-    go true e = rw (e, clearSlots, giveUpAll) (ap (settle 0 0) (giveUp-flat (member r) g) ∙ settle-cleared (map (giveUp (member r)) g))
-    go false e = rw (e, clearSlots, giveUpAll) (ap flat (cleared-same g h))

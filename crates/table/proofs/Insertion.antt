@@ -10,8 +10,7 @@ use Rattle.model.specs.Lists.{all, elem}
 use Rattle.model.specs.Record as model
 use Rattle.model.specs.Record.{kind, isApproximate, member}
 use Rattle.model.specs.Levels.{Level, Group, listing, recordCount, giveUp, giveUpAll, filled, stayers, sinkers, sinkAll, insertTop, insert}
-use Rattle.model.specs.Device.{groupLength}
-use Rattle.model.specs.Sound.{isFilled, soundRecord, soundGroup}
+use Rattle.model.specs.Sound.{isFilled, soundRecord}
 use Rattle.model.proofs.Bools.{all-head, all-tail, all-cons}
 use Rattle.model.proofs.Total.{total}
 use Rattle.model.proofs.Owners.{owns, OwnedOnce, once-of}
@@ -27,7 +26,7 @@ use Rattle.group.specs.Layout.{slotsOf, ownerOf}
 use Rattle.group.specs.Cutting.{Placed, flatFrom, flat}
 use Rattle.group.specs.Held.{slotFor, Held}
 use Rattle.group.specs.Reading.{readGroup}
-use Rattle.group.proofs.Holding.{sound-held, held-read}
+use Rattle.group.proofs.Holding.{held-read}
 use Rattle.slots.specs.View.{Room, Shows}
 use Rattle.slots.specs.Edits as edits
 use Rattle.slots.specs.Edits.{renumbered}
@@ -35,7 +34,7 @@ use Rattle.slots.specs.Owners.{takenBy}
 use Rattle.table.specs.Slots.{slot, records, place, keepSlot}
 use Rattle.table.specs.InsertSlots.{given, giveUpSlots, renumber, settle, topSlots}
 use Rattle.table.specs.Shown.{weight, Shown}
-use Rattle.table.specs.Ready.{Masks, Parted, Ready}
+use Rattle.table.specs.Ready.{Parted, Ready}
 use Rattle.table.proofs.Moves.{insertAt-length}
 use Rattle.table.proofs.Weights.{among-total, owned-more}
 use Rattle.table.proofs.Fits.{sound-eight}
@@ -113,12 +112,6 @@ settle-map : (o n : ℕ) (l : List Placed) → edits.settle o n (map slotFor l) 
 unfolding edits.settle settle renumbered renumber
 settle-map o n [] = refl
 settle-map o n (s ∷ l) = ap (λ (k : List Slot). slotFor (slot (renumber o n (s .level)) (s .item)) ∷ k) (settle-map (s .level) (renumber o n (s .level)) l)
-
--- Bytes that are read as a sound group are ready for a sound record, whose members the mask has.
-pub ready-read : (N k : ℕ) (b m : List ℕ) (r : Record) (L : List ℕ) → length b ≡ groupLength → length m ≡ 256 → soundGroup N k (readGroup b) ≡ true
-    → recordCount (readGroup b) < 512 → soundRecord N k (asRecord r L) ≡ true → Masks m (asRecord r L) → Ready b m r
-ready-read N k b m r L size long sound few fits members =
-    record { N = N; number = k; group = readGroup b; owned = L; size = size; long = long; held = sound-held N k b sound; sound = sound; few = few; fits = fits; members = members }
 
 module _ (b m : List ℕ) (r : Record) (q : Ready b m r) where
   abbrev R : model.Record

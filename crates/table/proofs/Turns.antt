@@ -1,20 +1,16 @@
 -- Level 0's slots meet their fates one after the other: what the list is in between and in the end. Assumes nothing.
 use mathlib.Core.Path.{_≡_, refl, sym, _∙_, ap}
-use mathlib.Core.List.{List, [], _∷_, _++_, append-assoc}
+use mathlib.Core.List.{[], _∷_, _++_}
 use mathlib.Core.Option.{none, some}
 use mathlib.Core.Bool.{true, false}
-use Prim.Native.Nat.{ℕ, suc, _≤_, _<_}
-use native.Mathlib.Omega.{arith}
-use lib.ListN.{length, length-set}
+use Prim.Native.Nat.{suc}
+use lib.ListN.{length}
 use Rattle.model.specs.Record.{Record, member}
 use Rattle.model.specs.Levels.{Level, Group, meets, shrink, Fate, stays, sinks, goes, fateLeft, fate, staying, sinking, stayers, sinkers, sink, sinkAll}
-use Rattle.group.specs.Cutting.{Placed, flat}
-use Rattle.bytes.specs.Slots.{removeAt}
-use Rattle.table.specs.Slots.{slot}
-use Rattle.table.specs.InsertSlots.{sinkSlots, turn, turnNext, turns}
-use Rattle.table.proofs.Moves.{removeAt-length, snoc-length}
-use Rattle.table.proofs.FlatParts.{flat-held, flat-remove, flat-replace}
-use Rattle.table.proofs.Sink.{sink-flat, sink-length}
+use Rattle.group.specs.Cutting.{flat}
+use Rattle.table.specs.InsertSlots.{sinkSlots, turn, turnNext}
+use Rattle.table.proofs.FlatParts.{flat-remove, flat-replace}
+use Rattle.table.proofs.Sink.{sink-flat}
 
 -- a record beside r stays
 pub fate-beside : (r v : Record) → meets v r ≡ false → fate r v ≡ stays v
@@ -42,13 +38,6 @@ unfolding turn staying sinking sinkAll
 turn-flat (stays s) p v b g = flat-replace p v b g s
 turn-flat (sinks s) p v b g = ap (sinkSlots s) (flat-remove p v b g) ∙ sink-flat s (p ++ b) g
 turn-flat goes p v b g = flat-remove p v b g
-
--- A turn adds no slot.
-pub turn-length : (f : Fate) (i : ℕ) (l : List Placed) → i < length l → length (turn f i l) ≤ length l
-unfolding turn
-turn-length (stays s) i l h = omega (arith, length-set l i (slot 0 s))
-turn-length (sinks s) i l h = omega (arith, sink-length s (removeAt i l), removeAt-length i l h)
-turn-length goes i l h = omega (arith, removeAt-length i l h)
 
 -- the next record's turn, once those of a had theirs
 stayers-next : (r v : Record) (a b : Level) → stayers r (a ++ (v ∷ [])) ++ b ≡ stayers r a ++ staying (fate r v) b
@@ -101,18 +90,3 @@ turn-next r (u ∷ a) v = over (fate r u) (fate r v) (turn-next r a v)
     over (stays s) goes ih = ap suc ih
     over (sinks s) h ih = ih
     over goes h ih = ih
-
--- The slots once all behind the first part p of level 0 had their turn.
-pub turns-flat : (r : Record) (p b : Level) (g : Group) → turns r (length b) (length p) (flat ((p ++ b) ∷ g)) ≡ flat ((p ++ stayers r b) ∷ sinkAll (sinkers r b) g)
-unfolding turns turnNext stayers sinkers sinkAll staying sinking
-turns-flat r p [] g = refl
-turns-flat r p (v ∷ b) g =
-    ap (λ (x : Record). turns r (length b) (turnNext (fate r x) (length p)) (turn (fate r x) (length p) (flat ((p ++ (v ∷ b)) ∷ g)))) (flat-held p v b g)
-    ∙ ap (turns r (length b) (turnNext (fate r v) (length p))) (turn-flat (fate r v) p v b g)
-    ∙ go (fate r v) (λ q k. turns-flat r q b k)
-  where
-    go : (f : Fate) → ((q : Level) (k : Group) → turns r (length b) (length q) (flat ((q ++ b) ∷ k)) ≡ flat ((q ++ stayers r b) ∷ sinkAll (sinkers r b) k))
-        → turns r (length b) (turnNext f (length p)) (flat ((p ++ staying f b) ∷ sinkAll (sinking f []) g)) ≡ flat ((p ++ staying f (stayers r b)) ∷ sinkAll (sinking f (sinkers r b)) g)
-    go (stays s) ih = rw (snoc-length p s, append-assoc p (s ∷ []) b, append-assoc p (s ∷ []) (stayers r b)) at (ih (p ++ (s ∷ [])) g)
-    go (sinks s) ih = ih p (sink s g)
-    go goes ih = ih p g

@@ -2,14 +2,14 @@
 use mathlib.Core.List.{List, [], _∷_}
 use mathlib.Core.Option.{Option, some}
 use mathlib.Core.Bool.{Bool, true, false}
-use Prim.Native.Nat.{ℕ, zero, suc}
+use Prim.Native.Nat.{ℕ, suc}
 use lib.Dec.{eqb}
 use lib.ListN.{set}
-use Rattle.model.specs.Record.{Record, kind, isApproximate, member}
-use Rattle.model.specs.Levels.{shrink, Fate, stays, sinks, goes, fate}
+use Rattle.model.specs.Record.{Record, kind, isApproximate}
+use Rattle.model.specs.Levels.{shrink, Fate, stays, sinks, goes}
 use Rattle.group.specs.Cutting.{Placed}
 use Rattle.bytes.specs.Slots.{insertAt, removeAt}
-use Rattle.table.specs.Slots.{slot, heldAt, zeros, place, meetsAt, deepenFrom, keepSlot}
+use Rattle.table.specs.Slots.{slot, zeros, place, meetsAt, deepenFrom, keepSlot}
 
 -- what is left of a slot's record: an approximate one gives up the offsets that pass the test
 unfoldable pub given : (ℕ → Bool) → Record → Option Record
@@ -29,10 +29,6 @@ unfoldable pub settle : ℕ → ℕ → List Placed → List Placed
 settle o n [] = []
 settle o n (s ∷ l) = slot (renumber o n (s .level)) (s .item) ∷ settle (s .level) (renumber o n (s .level)) l
 
--- the slots once the approximate records have given up r's offsets
-unfoldable pub clearSlots : Record → List Placed → List Placed
-clearSlots r l = elim (isApproximate (kind r)) [ true ↦ settle 0 0 (giveUpSlots (member r) l) | false ↦ l ]
-
 -- s put at level 1 if it meets nothing there, otherwise on a new level 1 of its own
 unfoldable pub sinkSlots : Record → List Placed → List Placed
 sinkSlots s l = elim (meetsAt 1 s l) [ true ↦ insertAt (zeros l) (slot 1 s) (deepenFrom (zeros l) l) | false ↦ insertAt (place 1 s l) (slot 1 s) l ]
@@ -49,15 +45,6 @@ turnNext (stays s) i = suc i
 turnNext (sinks s) i = i
 turnNext goes i = i
 
--- k slots from index i on meet their fates under r, one after the other
-unfoldable pub turns : Record → ℕ → ℕ → List Placed → List Placed
-turns r zero i l = l
-turns r (suc k) i l = turns r k (turnNext (fate r (heldAt i l)) i) (turn (fate r (heldAt i l)) i l)
-
 -- r put at its place of level 0
 unfoldable pub topSlots : Record → List Placed → List Placed
 topSlots r l = insertAt (place 0 r l) (slot 0 r) l
-
--- insertion of r: all slots of level 0 meet their fates, then it is put there
-unfoldable pub insertSlots : Record → List Placed → List Placed
-insertSlots r l = topSlots r (turns r (zeros (clearSlots r l)) 0 (clearSlots r l))

@@ -2,6 +2,5 @@ pub mod Flat
 pub mod Slots
 pub mod InsertSlots
 pub mod CompactSlots
-pub mod CountSlots
 pub mod Shown
 pub mod Ready

@@ -1,6 +1,6 @@
 -- `from_signed` meets its contract: a number from 0 on is its own bits, a negative z has 4,294,967,295 - (-1 - z).
 use mathlib.Core.Path.{_≡_, ap, _∙_, sym, subst}
-use Prim.Native.Nat.{_≤_, _-_}
+use Prim.Native.Nat.{_-_}
 use native.Mathlib.Omega.{arith}
 use lib.IntN.{ℤ, negsuc, _-ℤ_, natAbs}
 use lib.Signed.{nonNeg}
