@@ -1,0 +1,57 @@
+-- The blanks that are left make the whole store.
+use Prim.Native.Nat.{ℕ, _+_, _-_}
+use native.Mathlib.Omega.{arith}
+use mathlib.Core.Path.{_≡_, refl, ap, _∙_}
+use lib.ListN.{length, replicate, length-set, length-replicate}
+use Rattle.model.specs.Lists.{store}
+use Rattle.lines.proofs.Texts.{blank-turn, laid-all}
+use Rattle.lines.proofs.print.put_blanks.Statement.{statement}
+use Rattle.lines.proofs.print.put_blanks.Tie as tie
+
+abbrev Inv-loop : tie.InvT-loop
+Inv-loop out₀ at width used i₀ k₀ out i k = (i + (width - k) ≡ at + (width - used)) × (length out ≡ length out₀) × (store out i (replicate (width - k) 32) ≡ store out₀ at (replicate (width - used) 32))
+
+abbrev μ-loop : tie.MeasureT-loop
+μ-loop out₀ at width used i₀ k₀ out i k = width - k
+
+loop-holds : tie.Need-loop-holds Inv-loop μ-loop
+loop-holds c = (refl, refl, refl)
+
+slice-write-out : tie.Need-slice-write-out Inv-loop μ-loop
+slice-write-out c = omega arith
+
+add-i : tie.Need-add-i Inv-loop μ-loop
+add-i c = omega arith
+
+add-k : tie.Need-add-k Inv-loop μ-loop
+add-k c = omega arith
+
+loop-less : tie.Need-loop-less Inv-loop μ-loop
+loop-less c = omega arith
+
+loop-again : tie.Need-loop-again Inv-loop μ-loop
+loop-again c = (omega arith, simp length-set (omega arith), blank-turn _ _ _ _ (c .loop-test .taken) ∙ c .before .loop .inv .2)
+
+same-length : tie.Need-same-length Inv-loop μ-loop
+same-length c = omega arith
+
+returns : tie.Need-returns Inv-loop μ-loop
+returns c =
+    let start = c .before .before .args in
+    let none : start .width - c .before .loop .k ≡ 0 = omega arith in
+    laid-all _ _ (ap (λ (n : ℕ). replicate n 32) none) (c .before .loop .inv .2) (omega (arith, length-replicate {A = ℕ} (start .width - start .used) 32)) (omega arith)
+
+pub put-blanks-spec : {M : Type 1} → statement M
+put-blanks-spec =
+    tie.close
+    (tie.spec
+    Inv-loop
+    μ-loop
+    loop-holds
+    slice-write-out
+    add-i
+    add-k
+    loop-less
+    loop-again
+    same-length
+    returns)

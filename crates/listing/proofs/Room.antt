@@ -1,0 +1,77 @@
+-- A device that is taken lies inside the program's memory. Assumes nothing.
+use mathlib.Core.Path.{_≡_}
+use mathlib.Core.List.{List}
+use mathlib.Core.Bool.{true, false, _&&_}
+use Prim.Native.Nat.{ℕ, _+_, _*_, _≤_, _<_}
+use native.Mathlib.Omega.{arith}
+use native.Mathlib.Nat.{mul-le-mul-left}
+use borrow.Author.Tests.{leb-true, le-leb, lt-leb}
+use lib.Dec.{leb}
+use lib.ListN.{length}
+use Rattle.model.specs.Device.{Device, withinLimits, groupCount, entriesPerPage, entriesPerBlock, spareLength, headLength, countLength, groupLength, stateLength}
+use Rattle.model.proofs.Bools.{and-l, and-r}
+use Rattle.model.proofs.Limits.{Limits, limits}
+use Rattle.listing.specs.Memory.{takesDevice, Ready, heldBy}
+
+module _ (d : Device) where
+  -- a device outside the limits is not taken
+  pub not-within : withinLimits d ≡ false → takesDevice d ≡ false
+  unfolding takesDevice
+  not-within e = rw e
+
+  -- nor one with more than 1,024 logical pages
+  pub many-pages : withinLimits d ≡ true → 1024 < d .N → takesDevice d ≡ false
+  unfolding takesDevice
+  many-pages e h = rw (e, lt-leb (d .N) 1024 h)
+
+  -- of the others the spare entries decide
+  pub entries-decide : withinLimits d ≡ true → d .N ≤ 1024 → takesDevice d ≡ leb (spareLength d) 8192
+  unfolding takesDevice
+  entries-decide e h = rw (e, le-leb (d .N) 1024 h)
+
+  -- a device that is taken is within the limits
+  pub taken-within : takesDevice d ≡ true → withinLimits d ≡ true
+  unfolding takesDevice
+  taken-within t = and-l (withinLimits d) (leb (d .N) 1024 && leb (spareLength d) 8192) t
+
+  -- it has at most 1,024 logical pages
+  taken-pages : takesDevice d ≡ true → d .N ≤ 1024
+  unfolding takesDevice
+  taken-pages t = leb-true (d .N) 1024 (and-l (leb (d .N) 1024) (leb (spareLength d) 8192) (and-r (withinLimits d) (leb (d .N) 1024 && leb (spareLength d) 8192) t))
+
+  -- and at most 8,192 spare entries
+  taken-entries : takesDevice d ≡ true → spareLength d ≤ 8192
+  unfolding takesDevice
+  taken-entries t = leb-true (spareLength d) 8192 (and-r (leb (d .N) 1024) (leb (spareLength d) 8192) (and-r (withinLimits d) (leb (d .N) 1024 && leb (spareLength d) 8192) t))
+
+  -- each block has at least 4 spare entries
+  four-entries : Limits d → d .M * 4 ≤ spareLength d
+  unfolding spareLength entriesPerBlock entriesPerPage
+  four-entries l =
+      let one : 1 ≤ 2 * d .g + 1 = omega arith in
+      let four : 4 ≤ d .B * (2 * d .g + 1) = omega (arith, l .least-B, mul-le-mul-left (d .B) one) in
+      mul-le-mul-left (d .M) four
+
+  -- 1,024 logical pages are 4 groups
+  few-groups : d .N ≤ 1024 → groupCount d ≤ 4
+  unfolding groupCount
+  few-groups h = omega arith
+
+  -- the longest state that is taken
+  state-room : d .M ≤ 2048 → groupCount d ≤ 4 → stateLength d ≤ 26656
+  unfolding stateLength headLength countLength groupLength
+  state-room h k = omega arith
+
+  -- its lengths lie inside
+  pub room : (state spare : List ℕ) → takesDevice d ≡ true → length state ≡ 26656 → length spare ≡ 8192 → Ready (heldBy d) state spare
+  room state spare t e f =
+      let l : Limits d = limits d (taken-within t) in
+      let blocks : d .M ≤ 2048 = omega (arith, four-entries l, taken-entries t) in
+      record {
+        bytes = e;
+        entries = f;
+        stateUsed = state-room blocks (few-groups (taken-pages t));
+        spareUsed = taken-entries t;
+        blocksUsed = blocks;
+        pagesUsed = l .most-B;
+      }

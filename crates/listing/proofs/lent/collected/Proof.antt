@@ -1,0 +1,27 @@
+-- A refusal has its number, any other answer 0.
+use mathlib.Core.Path.{sym, ap, _∙_}
+use Rattle.calls.specs.Outcome.{number}
+use Rattle.device.specs.Answers.{collectAnswer}
+use borrow.Author.Needs.{needs}
+use Rattle.listing.proofs.lent.collected.Statement.{statement}
+use Rattle.listing.proofs.lent.collected.Tie as tie
+
+enum-told : tie.Need-enum-told
+enum-told c = search needs
+
+enum-known-a : tie.Need-enum-known-a
+enum-known-a c = search needs
+
+number-requires : tie.Need-number-requires
+number-requires c κs = search needs
+
+returns : tie.Need-returns
+unfolding number collectAnswer
+returns c = sym (ap (λ (a : _). number (collectAnswer a)) (c .enum-told .given .1))
+
+returns-2 : tie.Need-returns-2
+unfolding number collectAnswer
+returns-2 c = c .number .ensures ∙ sym (ap (λ (a : _). number (collectAnswer a)) (c .before .before .a .given .1))
+
+pub collected-spec : {M : Type 1} → statement M
+collected-spec = tie.close (tie.spec enum-told enum-known-a number-requires returns returns-2)

@@ -1,0 +1,27 @@
+-- A refusal has its number, any other answer 0.
+use mathlib.Core.Path.{sym, ap, _∙_}
+use Rattle.calls.specs.Outcome.{number}
+use Rattle.device.specs.Answers.{flushAnswer}
+use borrow.Author.Needs.{needs}
+use Rattle.listing.proofs.lent.flushed.Statement.{statement}
+use Rattle.listing.proofs.lent.flushed.Tie as tie
+
+enum-told : tie.Need-enum-told
+enum-told c = search needs
+
+enum-known-a : tie.Need-enum-known-a
+enum-known-a c = search needs
+
+number-requires : tie.Need-number-requires
+number-requires c κs = search needs
+
+returns : tie.Need-returns
+unfolding number flushAnswer
+returns c = sym (ap (λ (a : _). number (flushAnswer a)) (c .enum-told .given .1))
+
+returns-2 : tie.Need-returns-2
+unfolding number flushAnswer
+returns-2 c = c .number .ensures ∙ sym (ap (λ (a : _). number (flushAnswer a)) (c .before .before .a .given .1))
+
+pub flushed-spec : {M : Type 1} → statement M
+flushed-spec = tie.close (tie.spec enum-told enum-known-a number-requires returns returns-2)

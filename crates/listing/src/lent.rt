@@ -1,0 +1,219 @@
+// The calls on the parts of the program's memory that the device uses. Each answers the refusal's number, 0 where it is accepted.
+use collection::collect::collect;
+use device::answers::Collected;
+use device::answers::Compacted;
+use device::answers::Flushed;
+use device::answers::Formatted;
+use device::answers::Lookup;
+use device::answers::Refusal;
+use device::compact::compact;
+use device::format::format;
+use device::lookup::lookup;
+use device::numbers::state_len;
+use device::numbers::within_limits;
+use flush::flush;
+use spare::Numbers;
+ghost use mathlib.Core.Path.{_≡_};
+ghost use mathlib.Core.List.{List};
+ghost use Prim.Native.Nat.{ℕ, _≤_};
+ghost use lib.ListN.{length, replicate};
+ghost use Rattle.calls.specs.Refusals.{refusalNumber};
+ghost use Rattle.calls.specs.Outcome.{number as numberOf};
+ghost use Rattle.calls.specs.History.{formatCall, flushCall, lookupCall, collectCall, compactCall};
+ghost use Rattle.spare.specs.Read.{numbersOf};
+ghost use Rattle.device.specs.Answers.{refusalOf, formatAnswer, flushAnswer, lookupAnswer, collectAnswer, compactAnswer};
+ghost use Rattle.listing.specs.Memory.{takesDevice, Ready, Obeyed, callOf, Takes};
+
+// The lengths in use: bytes of state, spare entries, blocks, pages of a block. All are 0 until a format is accepted.
+pub struct Held {
+    pub state: usize,
+    pub spare: usize,
+    pub blocks: usize,
+    pub pages: usize,
+}
+
+// A device that is taken, with the lengths it uses, or refused.
+pub enum Taken {
+    Device(Held),
+    Refused,
+}
+
+// Document 01's number of a refusal.
+pub fn number(r: Refusal) -> u32
+    ensures { λ n. ⌜ n ≡ refusalNumber (refusalOf r) ⌝ }
+{
+    match r {
+        Refusal::BadNumbers => 1,
+        Refusal::BadLength => 2,
+        Refusal::NotSound => 3,
+        Refusal::OutOfRange => 4,
+        Refusal::BadBatch => 5,
+        Refusal::NoFreeBlock => 6,
+        Refusal::NotNamed => 7,
+        Refusal::NothingToGain => 8,
+    }
+}
+
+fn looked_up(a: Lookup) -> u32
+    ensures { λ n. ⌜ n ≡ numberOf (lookupAnswer a) ⌝ }
+{
+    match a {
+        Lookup::Found(_, _, _) => 0,
+        Lookup::NotWritten(_) => 0,
+        Lookup::Refused(r) => number(r),
+    }
+}
+
+fn flushed(a: Flushed) -> u32
+    ensures { λ n. ⌜ n ≡ numberOf (flushAnswer a) ⌝ }
+{
+    match a {
+        Flushed::Done(_, _) => 0,
+        Flushed::Refused(r) => number(r),
+    }
+}
+
+fn collected(a: Collected) -> u32
+    ensures { λ n. ⌜ n ≡ numberOf (collectAnswer a) ⌝ }
+{
+    match a {
+        Collected::Done(_, _, _) => 0,
+        Collected::Refused(r) => number(r),
+    }
+}
+
+fn compacted(a: Compacted) -> u32
+    ensures { λ n. ⌜ n ≡ numberOf (compactAnswer a) ⌝ }
+{
+    match a {
+        Compacted::Done(_) => 0,
+        Compacted::Refused(r) => number(r),
+    }
+}
+
+// Looks a logical page up.
+fn look_up(state: &[u8], spare: &[u32], held: Held, page: u32) -> u32
+    requires { ⌜ Ready held (now state) (now spare) ⌝ }
+    ensures { λ r. ⌜ Obeyed (lookupCall page) (held .state) (held .spare) (now (state .entry)) (now (spare .entry)) r (now (state .entry)) (now (spare .entry)) ⌝ }
+{
+    let s = held.state;
+    let p = held.spare;
+    looked_up(lookup(&state[..s], &spare[..p], page))
+}
+
+// A plan of as many entries as the largest block has pages.
+fn plan_buffer() -> [u32; 256]
+    ensures { λ r. ⌜ r ≡ replicate 256 0 ⌝ }
+{
+    [0; 256]
+}
+
+// A list of erased blocks, of as many entries as the largest device taken has blocks.
+fn erased_buffer() -> [u32; 2048]
+    ensures { λ r. ⌜ r ≡ replicate 2048 0 ⌝ }
+{
+    [0; 2048]
+}
+
+// Flushes a batch.
+fn flush_batch(state: &mut [u8], spare: &mut [u32], held: Held, batch: &[u32]) -> u32
+    requires { ⌜ Ready held (now state) (now spare) ⌝ }
+    ensures { λ r. ⌜ Obeyed (flushCall (now (batch .entry)) (replicate (held .pages) 0)) (held .state) (held .spare)
+        (now (state .entry)) (now (spare .entry)) r (now (state .exit)) (now (spare .exit)) ⌝ }
+{
+    let mut plan = plan_buffer();
+    let s = held.state;
+    let p = held.spare;
+    let b = held.pages;
+    flushed(flush(&mut state[..s], &mut spare[..p], batch, &mut plan[..b]))
+}
+
+// Collects.
+fn collect_blocks(state: &mut [u8], spare: &mut [u32], held: Held) -> u32
+    requires { ⌜ Ready held (now state) (now spare) ⌝ }
+    ensures { λ r. ⌜ Obeyed (collectCall (replicate (held .pages) 0) (replicate (held .blocks) 0)) (held .state) (held .spare)
+        (now (state .entry)) (now (spare .entry)) r (now (state .exit)) (now (spare .exit)) ⌝ }
+{
+    let mut plan = plan_buffer();
+    let mut erased = erased_buffer();
+    let s = held.state;
+    let p = held.spare;
+    let b = held.pages;
+    let m = held.blocks;
+    collected(collect(
+        &mut state[..s],
+        &mut spare[..p],
+        &mut plan[..b],
+        &mut erased[..m],
+    ))
+}
+
+// Compacts a group.
+fn compact_group(state: &mut [u8], held: Held, group: u32) -> u32
+    requires { ⌜ held .state ≤ length (now state) ⌝ }
+    ensures { λ r. ⌜ ((spare : List ℕ) → Obeyed (compactCall group) (held .state) (held .spare) (now (state .entry)) spare r (now (state .exit)) spare) ⌝ }
+{
+    let s = held.state;
+    compacted(compact(&mut state[..s], group))
+}
+
+// Obeys a call other than a format and a listing: 2 flush, 3 lookup, 4 collection, 5 compaction.
+pub fn call(
+    op: u32,
+    numbers: &[u32],
+    first: u32,
+    state: &mut [u8],
+    spare: &mut [u32],
+    held: Held,
+) -> u32
+    requires { ⌜ Ready held (now state) (now spare) ⌝ }
+    ensures { λ r. ⌜ Obeyed (callOf op (now (numbers .entry)) first held) (held .state) (held .spare)
+        (now (state .entry)) (now (spare .entry)) r (now (state .exit)) (now (spare .exit)) ⌝ }
+{
+    match op {
+        2 => flush_batch(state, spare, held, numbers),
+        3 => look_up(state, spare, held, first),
+        4 => collect_blocks(state, spare, held),
+        _ => compact_group(state, held, first),
+    }
+}
+
+// Whether the program takes the device.
+fn takes(d: Numbers) -> bool
+    ensures { λ r. ⌜ r ≡ takesDevice (numbersOf d) ⌝ }
+{
+    if !within_limits(d) {
+        return false;
+    }
+    if 1024 < d.n {
+        return false;
+    }
+    spare::spare_len(d) <= 8192
+}
+
+// Formats the parts that the device uses.
+fn format_parts(state: &mut [u8], s: usize, spare: &mut [u32], p: usize, d: Numbers) -> Formatted
+    requires { ⌜ (s ≤ length (now state)) × (p ≤ length (now spare)) ⌝ }
+    ensures { λ r. ⌜ Obeyed (formatCall (numbersOf d)) s p (now (state .entry)) (now (spare .entry)) (numberOf (formatAnswer r)) (now (state .exit)) (now (spare .exit)) ⌝ }
+{
+    format(d.m, d.b, d.n, d.g, &mut state[..s], &mut spare[..p])
+}
+
+// Formats a device that is taken; any other leaves the memory as it was.
+pub fn format_device(state: &mut [u8], spare: &mut [u32], d: Numbers) -> Taken
+    requires { ⌜ (length (now state) ≡ 26656) × (length (now spare) ≡ 8192) ⌝ }
+    ensures { λ r. ⌜ Takes (numbersOf d) (now (state .entry)) (now (spare .entry)) r (now (state .exit)) (now (spare .exit)) ⌝ }
+{
+    if !takes(d) {
+        return Taken::Refused;
+    }
+    let s = state_len(d);
+    let p = spare::spare_len(d);
+    format_parts(state, s, spare, p, d);
+    Taken::Device(Held {
+        state: s,
+        spare: p,
+        blocks: d.m as usize,
+        pages: d.b as usize,
+    })
+}
