@@ -1,9 +1,11 @@
--- The ways in which an agreement ends: its refusals in order, and its answer. Assumes nothing.
+-- The ways in which an agreement ends: its refusals in order, and its answer, by one pass over the logical pages where N is equal.
+-- Assumes nothing.
 use mathlib.Core.Path.{_≡_, refl, sym, ap, _∙_}
 use mathlib.Core.List.{List, [], _∷_, _++_}
 use mathlib.Core.Option.{none, some}
 use mathlib.Core.Bool.{Bool, true, false, not, _&&_, _||_}
-use Prim.Native.Nat.{ℕ, _<_}
+use Prim.Native.Nat.{ℕ, _+_, _<_}
+use native.Mathlib.Omega.{arith}
 use lib.Dec.{eqb}
 use lib.ListN.{length}
 use borrow.Author.Tests.{eq-eqb, ne-eqb}
@@ -29,10 +31,13 @@ use Rattle.device.specs.Agreeing.{Checks}
 use Rattle.device.specs.Ran.{Ran}
 use Rattle.device.proofs.Refusing.{none-some, stops, goes-on, right-length, wrong-length, numbers-there, state-right, not-opened}
 use Rattle.device.proofs.Handing.{sound-at}
-use Rattle.device.proofs.Comparing.{each-not, each-all}
+use Rattle.device.proofs.Comparing.{each-not, each-more, each-all}
 
--- the refusals of a state with its spare area
+-- the refusals of a state with its spare area, and its lookups
 module _ (s : State) (spare : List ℕ) where
+  abbrev pub namedAt : ℕ → Bool
+  namedAt x = isNamed (seek s spare x)
+
   abbrev first : Check
   first = badNumbers when numbersMissing s
 
@@ -82,19 +87,16 @@ module _ (d : Device) (s : State) (spare : List ℕ) (h : Passed d s spare) wher
   pub can-seek : (x : ℕ) → x < d .N → Shaped d s × (length spare ≡ spareLength d) × (x < d .N) × (soundGroup (d .N) (groupOf x) (groupAt s (groupOf x)) ≡ true)
   can-seek x l = (h .shape, h .fits, l, sound-at d s (h .shape) (h .sound) (groupOf x))
 
-  abbrev pub namedAt : ℕ → Bool
-  namedAt x = isNamed (seek s spare x)
-
-  all-named-is : allNamed s spare ≡ eachBelow (d .N) namedAt
+  all-named-is : allNamed s spare ≡ eachBelow (d .N) (namedAt s spare)
   unfolding allNamed
-  all-named-is = ap (λ (e : Device). eachBelow (e .N) namedAt) (h .shape .numbers)
+  all-named-is = ap (λ (e : Device). eachBelow (e .N) (namedAt s spare)) (h .shape .numbers)
 
   -- a page whose lookup refuses 7, or none
-  pub page-unnamed : (x : ℕ) → x < d .N → namedAt x ≡ false → false ≡ allNamed s spare
-  page-unnamed x l e = sym (all-named-is ∙ each-not (d .N) x namedAt l e)
+  pub page-unnamed : (x : ℕ) → x < d .N → namedAt s spare x ≡ false → allNamed s spare ≡ false
+  page-unnamed x l e = all-named-is ∙ each-not (d .N) x (namedAt s spare) l e
 
-  pub pages-named : (x : ℕ) → x ≡ d .N → eachBelow x namedAt ≡ true → true ≡ allNamed s spare
-  pages-named x q e = sym (all-named-is ∙ each-all (d .N) x namedAt q e)
+  pub pages-named : (x : ℕ) → x ≡ d .N → eachBelow x (namedAt s spare) ≡ true → allNamed s spare ≡ true
+  pages-named x q e = all-named-is ∙ each-all (d .N) x (namedAt s spare) true q e
 
 -- of checks before others the first that applies is the answer; where none does, the others give it
 refuses-first : (cs ds : List Check) (r : Refusal) → firstRefusal cs ≡ some r → firstRefusal (cs ++ ds) ≡ some r
@@ -125,6 +127,26 @@ module _ (s : State) (spare : List ℕ) (s′ : State) (spare′ : List ℕ) whe
   abbrev answer : Answer
   answer = agree s spare s′ spare′
 
+  abbrev pub alikeAt : ℕ → Bool
+  alikeAt x = alike (seek s spare x) (seek s′ spare′ x)
+
+  -- The lookups of the logical pages before x: all are named, in both states, and `same` says whether they are alike.
+  pub record Compared (x : ℕ) (same : Bool) : Type 0 where
+    pub named : eachBelow x (namedAt s spare) ≡ true
+    pub named′ : eachBelow x (namedAt s′ spare′) ≡ true
+    pub told : eachBelow x alikeAt ≡ same
+
+  -- one more page whose lookups are alike, or not
+  module _ (x : ℕ) (same : Bool) (c : Compared x same) (e : namedAt s spare x ≡ true) (f : namedAt s′ spare′ x ≡ true) where
+    more : (t : Bool) → eachBelow (x + 1) alikeAt ≡ t → Compared (x + 1) t
+    more t q = record { named = each-more x _ true (c .named) e; named′ = each-more x _ true (c .named′) f; told = q }
+
+    pub more-alike : alikeAt x ≡ true → Compared (x + 1) same
+    more-alike q = more same (each-more x _ same (c .told) q)
+
+    pub more-apart : alikeAt x ≡ false → Compared (x + 1) false
+    more-apart q = more false (each-not (x + 1) x _ (omega arith) q)
+
   -- agreement writes nothing: any state and spare area stay
   pub ran-agree : (a : Answer) → a ≡ answer → (state other : List ℕ) → Ran (agreeCall s spare s′ spare′) state other a state other [] []
   unfolding run lend
@@ -153,22 +175,29 @@ module _ (s : State) (spare : List ℕ) (s′ : State) (spare′ : List ℕ) whe
       pub first-unnamed : allNamed s spare ≡ false → refused notNamed ≡ answer
       first-unnamed e = refuses notNamed (to-last ∙ stops last [] (rw e))
 
-      pub second-unnamed : allNamed s spare ≡ true → allNamed s′ spare′ ≡ false → refused notNamed ≡ answer
-      second-unnamed e f = refuses notNamed (to-last ∙ stops last [] (rw (e, f)))
+      pub second-unnamed : allNamed s′ spare′ ≡ false → refused notNamed ≡ answer
+      second-unnamed e = refuses notNamed (to-last ∙ stops last [] (rw e (either (allNamed s spare))))
+        where
+          either : (t : Bool) → not (t && false) ≡ true
+          either true = refl
+          either false = refl
 
       -- otherwise the answer: no where N differs, else what the lookups say
-      pub agree-answers : allNamed s spare ≡ true → allNamed s′ spare′ ≡ true → (t : Bool) → t ≡ agrees s spare s′ spare′ → agreed t ≡ answer
+      answers : allNamed s spare ≡ true → allNamed s′ spare′ ≡ true → (t : Bool) → agrees s spare s′ spare′ ≡ t → agreed t ≡ answer
       unfolding agree agreeAnswer
-      agree-answers e f t q = rw (to-last ∙ goes-on last [] (rw (e, f)) ∙ no-checks, q)
+      answers e f t q = rw (to-last ∙ goes-on last [] (rw (e, f)) ∙ no-checks, q)
 
-      numbers-decide : agrees s spare s′ spare′ ≡ (eqb (d .N) (d′ .N) && eachBelow (d .N) (λ x. alike (seek s spare x) (seek s′ spare′ x)))
+      numbers-decide : agrees s spare s′ spare′ ≡ (eqb (d .N) (d′ .N) && eachBelow (d .N) alikeAt)
       unfolding agrees
       numbers-decide =
-          ap (λ (e : Device). eqb (e .N) (s′ .device .N) && eachBelow (e .N) (λ x. alike (seek s spare x) (seek s′ spare′ x))) (h .shape .numbers)
-          ∙ ap (λ (e : Device). eqb (d .N) (e .N) && eachBelow (d .N) (λ x. alike (seek s spare x) (seek s′ spare′ x))) (h′ .shape .numbers)
+          ap (λ (e : Device). eqb (e .N) (s′ .device .N) && eachBelow (e .N) alikeAt) (h .shape .numbers)
+          ∙ ap (λ (e : Device). eqb (d .N) (e .N) && eachBelow (d .N) alikeAt) (h′ .shape .numbers)
 
-      pub other-numbers : (d .N ≡ d′ .N → ⊥) → false ≡ agrees s spare s′ spare′
-      other-numbers f = sym (numbers-decide ∙ rw (ne-eqb (d .N) (d′ .N) f))
+      pub other-numbers : allNamed s spare ≡ true → allNamed s′ spare′ ≡ true → (d .N ≡ d′ .N → ⊥) → agreed false ≡ answer
+      other-numbers e f q = answers e f false (numbers-decide ∙ rw (ne-eqb (d .N) (d′ .N) q))
 
-      pub pages-decide : d .N ≡ d′ .N → (u t : Bool) → u ≡ t → u ≡ eachBelow (d .N) (λ x. alike (seek s spare x) (seek s′ spare′ x)) → t ≡ agrees s spare s′ spare′
-      pages-decide q u t f e = sym f ∙ e ∙ sym (numbers-decide ∙ rw (eq-eqb (d .N) (d′ .N) q))
+      -- every page was compared
+      pub all-compared : (x : ℕ) (same : Bool) → Compared x same → x ≡ d .N → d .N ≡ d′ .N → (t : Bool) → same ≡ t → agreed t ≡ answer
+      all-compared x same c l q t e =
+          answers (pages-named d s spare h x l (c .named)) (pages-named d′ s′ spare′ h′ x (l ∙ q) (c .named′)) t
+          (numbers-decide ∙ rw (eq-eqb (d .N) (d′ .N) q) (each-all (d .N) x alikeAt t l (c .told ∙ e)))

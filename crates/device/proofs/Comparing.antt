@@ -8,7 +8,7 @@ use native.Mathlib.Omega.{arith}
 use native.Mathlib.Numerals.{add-one}
 use denote.Enum.Declared.{tagOf}
 use Rattle.model.proofs.Lists.{le-cases}
-use Rattle.model.proofs.Bools.{is-false, and-r, and-i}
+use Rattle.model.proofs.Bools.{is-false, and-r}
 use Rattle.calls.specs.Lookup as calls
 use Rattle.calls.specs.Collection.{gives}
 use Rattle.calls.specs.Agreement.{eachBelow, isNowhere, isNamed, alike}
@@ -59,7 +59,7 @@ unfolding gives soughtOf
 missing-gives nowhere p = refl
 missing-gives unnamed p = refl
 
--- a number that fails the test, and one more that passes it
+-- a number that fails the test
 pub each-not : (n x : ℕ) (t : ℕ → Bool) → x < n → t x ≡ false → eachBelow n t ≡ false
 unfolding eachBelow
 each-not zero x t h e = absurd (omega arith)
@@ -69,10 +69,11 @@ each-not (suc n) x t h e = go (le-cases x n (omega arith)) (λ l. each-not n x t
     go (inl q) ih = rw (q, e)
     go (inr l) ih = rw (ih (omega arith)) (is-false (t n && false) (λ z. true≢false (sym (and-r (t n) false z))))
 
-pub each-more : (x : ℕ) (t : ℕ → Bool) → eachBelow x t ≡ true → t x ≡ true → eachBelow (x + 1) t ≡ true
+-- one more that passes it changes nothing
+pub each-more : (x : ℕ) (t : ℕ → Bool) (u : Bool) → eachBelow x t ≡ u → t x ≡ true → eachBelow (x + 1) t ≡ u
 unfolding eachBelow
-each-more x t h e = rw (add-one x) (and-i (t x) (eachBelow x t) e h)
+each-more x t u h e = rw (add-one x, e) h
 
--- all of them passed it
-pub each-all : (n x : ℕ) (t : ℕ → Bool) → x ≡ n → eachBelow x t ≡ true → eachBelow n t ≡ true
-each-all n x t e h = rw e at h
+-- all of them were tried
+pub each-all : (n x : ℕ) (t : ℕ → Bool) (u : Bool) → x ≡ n → eachBelow x t ≡ u → eachBelow n t ≡ u
+each-all n x t u e h = rw e at h

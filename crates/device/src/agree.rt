@@ -1,5 +1,5 @@
 // Agreement of two states, each with its spare area.
-use crate::alike::all_alike;
+use crate::alike::compare;
 use crate::alike::is_named;
 use crate::answers::Agreed;
 use crate::answers::Refusal;
@@ -70,17 +70,14 @@ pub fn agree(state_a: &[u8], spare_a: &[u32], state_b: &[u8], spare_b: &[u32]) -
         Opened::Device(d) => d,
         Opened::Refused(r) => return Agreed::Refused(r),
     };
+    if a.n == b.n {
+        return compare(state_a, spare_a, a, state_b, spare_b, b);
+    }
     if !all_named(state_a, spare_a, a) {
         return Agreed::Refused(Refusal::NotNamed);
     }
     if !all_named(state_b, spare_b, b) {
         return Agreed::Refused(Refusal::NotNamed);
     }
-    if a.n != b.n {
-        return Agreed::No;
-    }
-    if !all_alike(state_a, spare_a, a, state_b, spare_b, b) {
-        return Agreed::No;
-    }
-    Agreed::Yes
+    Agreed::No
 }

@@ -1,14 +1,15 @@
 // Lookups compared: whether they found a page, and whether two states' lookups give the same.
+use crate::answers::Agreed;
+use crate::answers::Refusal;
 use crate::answers::Sought;
 use crate::lookup::seek;
 use spare::Numbers;
 ghost use mathlib.Core.Path.{_≡_};
-ghost use Rattle.calls.specs.Lookup.{seek};
-ghost use Rattle.calls.specs.Agreement.{isNowhere, isNamed, alike, eachBelow};
+ghost use Rattle.calls.specs.Agreement.{isNowhere, isNamed, alike, agree};
 ghost use Rattle.spare.specs.Read.{numbersOf};
 ghost use Rattle.device.specs.Reading.{readState};
 ghost use Rattle.device.specs.Shaped.{Passed};
-ghost use Rattle.device.specs.Answers.{soughtOf};
+ghost use Rattle.device.specs.Answers.{soughtOf, agreeAnswer};
 
 // Whether a lookup found no record.
 fn is_nowhere(sought: Sought) -> bool
@@ -46,27 +47,40 @@ fn are_alike(first: Sought, second: Sought) -> bool
     p == q
 }
 
-// Whether the lookups of every logical page are alike, where both states have as many.
-pub fn all_alike(
+// The agreement of two sound states that have as many logical pages, in one pass: each page is looked up once in each state.
+// Two lookups that are not alike don't end it, as a later one may still refuse 7.
+pub fn compare(
     state_a: &[u8],
     spare_a: &[u32],
     a: Numbers,
     state_b: &[u8],
     spare_b: &[u32],
     b: Numbers,
-) -> bool
+) -> Agreed
     requires { ⌜ Passed (numbersOf a) (readState (now «state_a»)) (now «spare_a») × Passed (numbersOf b) (readState (now «state_b»)) (now «spare_b») × (a .n ≡ b .n) ⌝ }
-    ensures { λ r. ⌜ r ≡ eachBelow (a .n) (λ x. alike (seek (readState (now («state_a» .entry))) (now («spare_a» .entry)) x) (seek (readState (now («state_b» .entry))) (now («spare_b» .entry)) x)) ⌝ }
+    ensures { λ r. ⌜ agreeAnswer r ≡ agree (readState (now («state_a» .entry))) (now («spare_a» .entry)) (readState (now («state_b» .entry))) (now («spare_b» .entry)) ⌝ }
 {
     let n = a.n;
+    let mut same = true;
     let mut x = 0;
     while x < n {
         let first = seek(state_a, spare_a, a, x);
+        if !is_named(first) {
+            return Agreed::Refused(Refusal::NotNamed);
+        }
         let second = seek(state_b, spare_b, b, x);
+        if !is_named(second) {
+            return Agreed::Refused(Refusal::NotNamed);
+        }
         if !are_alike(first, second) {
-            return false;
+            same = false;
+            x += 1;
+            continue;
         }
         x += 1;
     }
-    true
+    if !same {
+        return Agreed::No;
+    }
+    Agreed::Yes
 }

@@ -11,6 +11,7 @@
 //! - [`histories`]: lists of calls that start with a format
 //! - [`arguments`]: calls on arbitrary states, with arguments and lengths of all
 //!   kinds
+//! - [`scripts`]: random scripts for the listing program
 //!
 //! The environment variable `HEDJOSUR_ROUNDS` multiplies the rounds of every check.
 
@@ -24,4 +25,5 @@ pub mod calls;
 pub mod groups;
 pub mod histories;
 pub mod inputs;
+pub mod scripts;
 pub mod subjects;

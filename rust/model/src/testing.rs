@@ -1,7 +1,12 @@
-//! Seeded generators for the tests: repeatable, and without dependencies.
+//! Seeded generators for the tests, repeatable and without dependencies, and the
+//! running of a program.
 
 use std::collections::BTreeSet;
 use std::fmt::Debug;
+use std::io::Write;
+use std::path::{Path, PathBuf};
+use std::process::{Command, Output, Stdio};
+use std::{env, thread};
 
 use crate::device::{Device, GROUP_PAGES};
 use crate::levels::{Group, GROUP_RECORDS};
@@ -57,10 +62,41 @@ impl Random {
     }
 }
 
+/// Runs a program on this standard input to its end.
+pub fn run_program(program: &Path, arguments: &[&str], input: &[u8]) -> Output {
+    let mut child = Command::new(program)
+        .args(arguments)
+        .stdin(Stdio::piped())
+        .stdout(Stdio::piped())
+        .stderr(Stdio::piped())
+        .spawn()
+        .unwrap_or_else(|error| panic!("{}: {error}", program.display()));
+    let mut stdin = child.stdin.take().expect("its standard input");
+    // Written beside the reading, so that neither waits for the other; a program
+    // that stops early doesn't read it all.
+    thread::scope(|scope| {
+        scope.spawn(move || stdin.write_all(input));
+        child.wait_with_output().expect("it ends")
+    })
+}
+
+/// The proved listing program: the file that the environment variable
+/// `HEDJOSUR_LISTING` names, or `target/bin/listing` of the repository.
+pub fn proved_listing() -> PathBuf {
+    let here = Path::new(env!("CARGO_MANIFEST_DIR")).join("../../target/bin/listing");
+    let program = env::var_os("HEDJOSUR_LISTING").map_or(here, PathBuf::from);
+    assert!(
+        program.is_file(),
+        "{} is not there; `rt check listing` builds it",
+        program.display()
+    );
+    program
+}
+
 /// What the number of rounds is multiplied by: the number in the environment
 /// variable `HEDJOSUR_ROUNDS`, or 1.
 pub fn multiplier() -> u64 {
-    std::env::var("HEDJOSUR_ROUNDS").map_or(1, |text| {
+    env::var("HEDJOSUR_ROUNDS").map_or(1, |text| {
         text.parse().expect("HEDJOSUR_ROUNDS is a number of rounds")
     })
 }
@@ -95,7 +131,7 @@ impl CallLog {
 
 impl Drop for CallLog {
     fn drop(&mut self) {
-        if std::thread::panicking() {
+        if thread::panicking() {
             eprintln!("seed {}, after these calls:", self.seed);
             for call in &self.calls {
                 eprintln!("  {call}");

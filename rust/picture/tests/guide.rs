@@ -10,8 +10,9 @@ use std::collections::BTreeSet;
 use std::fs;
 use std::path::{Path, PathBuf};
 
-use common::{guide_files, root, run, text};
+use common::{guide_files, root, text};
 use hedjosur_model::script::{self, HEAD};
+use hedjosur_model::testing::{proved_listing, run_program};
 
 /// The text of the script that a file of the guide belongs to.
 fn script_of(file: &Path) -> Vec<u8> {
@@ -27,15 +28,11 @@ fn every_script_gives_its_listing() {
     assert_eq!(guide_files("listing").len(), guide_files("script").len());
 }
 
-/// The same by the proved program, where `build.rs` finds it.
+/// The same by the proved program.
 #[test]
-#[cfg_attr(
-    not(proved_listing),
-    ignore = "the proved listing program is not there"
-)]
 fn every_script_gives_its_listing_by_the_proved_program() {
     for file in guide_files("script") {
-        let output = run(env!("PROVED_LISTING"), &[], &script_of(&file));
+        let output = run_program(&proved_listing(), &[], &script_of(&file));
         let printed = String::from_utf8(output.stdout).expect("it prints text");
         assert_eq!(printed, text(&file.with_extension("listing")), "{file:?}");
     }

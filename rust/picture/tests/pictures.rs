@@ -3,15 +3,22 @@
 
 mod common;
 
-use common::{guide_files, root, run, text};
+use std::path::Path;
+use std::process::Output;
 
-const PICTURE: &str = env!("CARGO_BIN_EXE_picture");
+use common::{guide_files, root, text};
+use hedjosur_model::testing::run_program;
+
+/// Runs the picture program.
+fn run(arguments: &[&str], input: &[u8]) -> Output {
+    run_program(Path::new(env!("CARGO_BIN_EXE_picture")), arguments, input)
+}
 
 #[test]
 fn every_picture_is_made_from_its_listing() {
     for picture in guide_files("svg") {
         let listing = text(&picture.with_extension("listing"));
-        let output = run(PICTURE, &[], listing.as_bytes());
+        let output = run(&[], listing.as_bytes());
         assert!(output.status.success(), "{}", picture.display());
         let drawn = String::from_utf8(output.stdout).expect("it prints text");
         assert_eq!(
@@ -68,7 +75,7 @@ fn bad_input_is_refused_with_a_message() {
         ),
     ];
     for (arguments, input, message) in cases {
-        let output = run(PICTURE, arguments, input);
+        let output = run(arguments, input);
         assert_eq!(String::from_utf8_lossy(&output.stderr), message);
         assert_eq!(output.status.code(), Some(1), "{message}");
         assert!(output.stdout.is_empty(), "{message}");

@@ -1,9 +1,7 @@
-//! What the tests share: the guide's files, and running a program.
+//! What the tests share: the guide's files.
 
 use std::fs;
-use std::io::Write;
 use std::path::{Path, PathBuf};
-use std::process::{Command, Output, Stdio};
 
 /// The repository's folder.
 pub fn root() -> PathBuf {
@@ -26,18 +24,4 @@ pub fn guide_files(extension: &str) -> Vec<PathBuf> {
     files.sort();
     assert!(!files.is_empty(), "no .{extension} in docs/guide");
     files
-}
-
-/// Runs a program on this standard input.
-pub fn run(program: &str, arguments: &[&str], input: &[u8]) -> Output {
-    let mut child = Command::new(program)
-        .args(arguments)
-        .stdin(Stdio::piped())
-        .stdout(Stdio::piped())
-        .stderr(Stdio::piped())
-        .spawn()
-        .unwrap_or_else(|error| panic!("{program}: {error}"));
-    // A program that stops early doesn't read it all.
-    let _ = child.stdin.take().expect("its input").write_all(input);
-    child.wait_with_output().expect("it ends")
 }

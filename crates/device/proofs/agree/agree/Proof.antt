@@ -1,15 +1,13 @@
--- Each refusal, in order, by the law of its return; then N and the lookups decide.
+-- Each refusal, in order, by the law of its return; where N is equal, by what comparing answers.
 use native.Mathlib.Omega.{arith}
-use mathlib.Core.Path.{_≡_, sym, _∙_}
-use mathlib.Core.Bool.{true}
+use mathlib.Core.Path.{sym, _∙_}
 use borrow.Author.Needs.{needs}
 use borrow.Author.Tests.{not-true, not-false}
-use Rattle.calls.specs.Agreement.{allNamed}
 use Rattle.spare.specs.Read.{numbersOf}
 use Rattle.device.specs.Reading.{readState}
 use Rattle.device.specs.Shaped.{Passed}
 use Rattle.device.specs.Answers.{refusalOf, agreeAnswer}
-use Rattle.device.proofs.Agreeing.{checked-device, checked-refusal, ran-agree, first-refuses, second-refuses, first-unnamed, second-unnamed, agree-answers, other-numbers, pages-decide}
+use Rattle.device.proofs.Agreeing.{checked-device, checked-refusal, ran-agree, first-refuses, second-refuses, first-unnamed, second-unnamed, other-numbers}
 use Rattle.device.proofs.agree.agree.Statement.{statement}
 use Rattle.device.proofs.agree.agree.Tie as tie
 
@@ -19,12 +17,6 @@ first c = checked-device _ _ _ _ (c .before .before .before .check .ensures) (c 
 
 second : (c : tie.After-known-told3) → Passed (numbersOf (c .before .second .given .0 .0)) (readState (c .before .before .before .before .before .before .before .before .before .before .before .before .args .state-b .now)) (c .before .before .before .before .before .before .before .before .before .before .before .before .args .spare-b .now)
 second c = checked-device _ _ _ _ (c .before .before .before .check2 .ensures) (c .before .second .given .1)
-
-first-named : (c : tie.Else1) → allNamed (readState (c .before .before .before .before .before .before .before .before .before .before .before .before .before .before .args .state-a .now)) (c .before .before .before .before .before .before .before .before .before .before .before .before .before .before .args .spare-a .now) ≡ true
-first-named c = sym (c .before .all-named .ensures) ∙ not-false (c .before .all-named .result) (c .if1 .left)
-
-second-named : (c : tie.Else2) → allNamed (readState (c .before .before .before .before .before .before .before .before .before .before .before .before .before .before .before .before .args .state-b .now)) (c .before .before .before .before .before .before .before .before .before .before .before .before .before .before .before .before .args .spare-b .now) ≡ true
-second-named c = sym (c .before .all-named2 .ensures) ∙ not-false (c .before .all-named2 .result) (c .if2 .left)
 
 check-requires : tie.Need-check-requires
 check-requires c κs = search needs
@@ -52,43 +44,32 @@ returns-2 : tie.Need-returns-2
 unfolding agreeAnswer
 returns-2 c = ran-agree _ _ _ _ _ (second-refuses _ _ _ _ _ (first (c .before .before .before .before)) _ (checked-refusal _ _ _ _ (c .before .before .before .check2 .ensures) (c .before .second2 .given .1)))
 
-all-named-requires : tie.Need-all-named-requires
-all-named-requires c κs = first (c .before .before .before .before)
+compare-requires : tie.Need-compare-requires
+compare-requires c κs = (first (c .before .before .before .before .before .before .before), second (c .before .before .before), omega (arith, c .if1 .taken))
 
 returns-3 : tie.Need-returns-3
-unfolding agreeAnswer refusalOf
-returns-3 c = ran-agree _ _ _ _ _ (first-unnamed _ _ _ _ _ (first (c .before .before .before .before .before .before)) _ (second (c .before .before)) (sym (c .before .all-named .ensures) ∙ not-true (c .before .all-named .result) (c .if1 .taken)))
+returns-3 c = ran-agree _ _ _ _ _ (c .compare .ensures)
 
-all-named-requires-2 : tie.Need-all-named-requires-2
-all-named-requires-2 c κs = second (c .before .before)
+all-named-requires : tie.Need-all-named-requires
+all-named-requires c κs = first (c .before .before .before .before .before .before .before)
 
 returns-4 : tie.Need-returns-4
 unfolding agreeAnswer refusalOf
-returns-4 c = ran-agree _ _ _ _ _ (second-unnamed _ _ _ _ _ (first (c .before .before .before .before .before .before .before .before)) _ (second (c .before .before .before .before)) (first-named (c .before .before)) (sym (c .before .all-named2 .ensures) ∙ not-true (c .before .all-named2 .result) (c .if2 .taken)))
+returns-4 c = ran-agree _ _ _ _ _ (first-unnamed _ _ _ _ _ (first (c .before .before .before .before .before .before .before .before .before)) _ (second (c .before .before .before .before .before)) (sym (c .before .all-named .ensures) ∙ not-true (c .before .all-named .result) (c .if2 .taken)))
+
+all-named-requires-2 : tie.Need-all-named-requires-2
+all-named-requires-2 c κs = second (c .before .before .before .before .before)
 
 returns-5 : tie.Need-returns-5
-unfolding agreeAnswer
-returns-5 c =
-    let a = first (c .before .before .before .before .before .before .before .before .before .before .before) in
-    let b = second (c .before .before .before .before .before .before .before) in
-    ran-agree _ _ _ _ _ (agree-answers _ _ _ _ _ a _ b (first-named (c .before .before .before .before .before)) (second-named (c .before .before .before)) _ (other-numbers _ _ _ _ _ a _ b (λ e. omega (arith, c .if3 .taken))))
-
-all-alike-requires : tie.Need-all-alike-requires
-all-alike-requires c κs = (first (c .before .before .before .before .before .before .before .before .before .before .before), second (c .before .before .before .before .before .before .before), omega (arith, c .if3 .left))
+unfolding agreeAnswer refusalOf
+returns-5 c = ran-agree _ _ _ _ _ (second-unnamed _ _ _ _ _ (first (c .before .before .before .before .before .before .before .before .before .before .before)) _ (second (c .before .before .before .before .before .before .before)) (sym (c .before .all-named2 .ensures) ∙ not-true (c .before .all-named2 .result) (c .if3 .taken)))
 
 returns-6 : tie.Need-returns-6
 unfolding agreeAnswer
 returns-6 c =
-    let a = first (c .before .before .before .before .before .before .before .before .before .before .before .before .before) in
-    let b = second (c .before .before .before .before .before .before .before .before .before) in
-    ran-agree _ _ _ _ _ (agree-answers _ _ _ _ _ a _ b (first-named (c .before .before .before .before .before .before .before)) (second-named (c .before .before .before .before .before)) _ (pages-decide _ _ _ _ _ a _ b (c .before .before .if3 .left) _ _ (not-true (c .before .all-alike .result) (c .if4 .taken)) (c .before .all-alike .ensures)))
-
-returns-7 : tie.Need-returns-7
-unfolding agreeAnswer
-returns-7 c =
-    let a = first (c .before .before .before .before .before .before .before .before .before .before .before .before .before) in
-    let b = second (c .before .before .before .before .before .before .before .before .before) in
-    ran-agree _ _ _ _ _ (agree-answers _ _ _ _ _ a _ b (first-named (c .before .before .before .before .before .before .before)) (second-named (c .before .before .before .before .before)) _ (pages-decide _ _ _ _ _ a _ b (c .before .before .if3 .left) _ _ (not-false (c .before .all-alike .result) (c .if4 .left)) (c .before .all-alike .ensures)))
+    let named-a = sym (c .before .before .before .all-named .ensures) ∙ not-false (c .before .before .before .all-named .result) (c .before .before .if2 .left) in
+    let named-b = sym (c .before .all-named2 .ensures) ∙ not-false (c .before .all-named2 .result) (c .if3 .left) in
+    ran-agree _ _ _ _ _ (other-numbers _ _ _ _ _ (first (c .before .before .before .before .before .before .before .before .before .before .before)) _ (second (c .before .before .before .before .before .before .before)) named-a named-b (λ e. omega (arith, c .before .before .before .before .if1 .left)))
 
 pub agree-spec : {M : Type 1} → statement M
 agree-spec =
@@ -102,11 +83,10 @@ agree-spec =
     enum-known-second
     enum-known-second-2
     returns-2
-    all-named-requires
+    compare-requires
     returns-3
-    all-named-requires-2
+    all-named-requires
     returns-4
+    all-named-requires-2
     returns-5
-    all-alike-requires
-    returns-6
-    returns-7)
+    returns-6)

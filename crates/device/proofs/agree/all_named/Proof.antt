@@ -30,7 +30,7 @@ is-named-requires : tie.Need-is-named-requires Inv-loop μ-loop
 is-named-requires c κs = tt
 
 returns : tie.Need-returns Inv-loop μ-loop
-returns c = page-unnamed _ _ _ (c .before .before .before .before .before .before .before .pre) _ (omega (arith, c .before .before .before .loop-test .taken)) (sym (c .before .is-named .ensures ∙ ap isNamed (c .before .before .seek .ensures)) ∙ not-true (c .before .is-named .result) (c .if1 .taken))
+returns c = sym (page-unnamed _ _ _ (c .before .before .before .before .before .before .before .pre) _ (omega (arith, c .before .before .before .loop-test .taken)) (sym (c .before .is-named .ensures ∙ ap isNamed (c .before .before .seek .ensures)) ∙ not-true (c .before .is-named .result) (c .if1 .taken)))
 
 add-x : tie.Need-add-x Inv-loop μ-loop
 add-x c = omega (arith, small _ (c .before .before .before .before .before .before .before .pre .shape .limits) .pages)
@@ -39,10 +39,10 @@ loop-less : tie.Need-loop-less Inv-loop μ-loop
 loop-less c = omega arith
 
 loop-again : tie.Need-loop-again Inv-loop μ-loop
-loop-again c = (each-more _ _ (c .before .before .before .before .loop .inv .0) (sym (c .before .is-named .ensures ∙ ap isNamed (c .before .before .seek .ensures)) ∙ not-false (c .before .is-named .result) (c .if1 .left)), omega arith)
+loop-again c = (each-more _ _ _ (c .before .before .before .before .loop .inv .0) (sym (c .before .is-named .ensures ∙ ap isNamed (c .before .before .seek .ensures)) ∙ not-false (c .before .is-named .result) (c .if1 .left)), omega arith)
 
 returns-2 : tie.Need-returns-2 Inv-loop μ-loop
-returns-2 c = pages-named _ _ _ (c .before .before .before .before .pre) _ (omega (arith, c .loop-test .left, c .before .loop .inv .1)) (c .before .loop .inv .0)
+returns-2 c = sym (pages-named _ _ _ (c .before .before .before .before .pre) _ (omega (arith, c .loop-test .left, c .before .loop .inv .1)) (c .before .loop .inv .0))
 
 pub all-named-spec : {M : Type 1} → statement M
 all-named-spec =
