@@ -1,7 +1,6 @@
 // Collection: its refusals before anything is written, then the moves, the erased blocks and their list.
 use crate::choose::choose;
 use crate::erasing::erase_blocks;
-use crate::erasing::list_erased;
 use crate::moving::moves;
 use crate::validity::tally_all;
 use device::answers::Collected;
@@ -11,6 +10,7 @@ use device::counts::lowest_free;
 use device::groups::sound;
 use device::opening::Opened;
 use device::opening::check_state;
+use flush::writing::store_front;
 use flush::writing::write_block;
 use spare::Numbers;
 ghost use mathlib.Core.Path.{_≡_};
@@ -135,7 +135,7 @@ fn carry_out(
 {
     let first = write_moves(state, spare, plan, d, pages, sources);
     erase_blocks(state, spare, d, blocks);
-    list_erased(erased, blocks);
+    store_front(erased, blocks);
     Collected::Done(first, pages.len() as u32, blocks.len() as u32)
 }
 

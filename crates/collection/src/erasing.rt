@@ -1,13 +1,13 @@
-// The taken blocks are erased and listed.
+// The taken blocks are erased.
 use device::counts::set_count;
 use spare::Numbers;
 ghost use mathlib.Core.Path.{_≡_};
 ghost use mathlib.Core.Bool.{true};
 ghost use mathlib.Core.List.{List};
-ghost use Prim.Native.Nat.{ℕ, _<_, _≤_};
+ghost use Prim.Native.Nat.{ℕ, _<_};
 ghost use lib.Dec.{ltb};
 ghost use lib.ListN.{length};
-ghost use Rattle.model.specs.Lists.{all, store};
+ghost use Rattle.model.specs.Lists.{all};
 ghost use Rattle.model.specs.Device.{spareLength};
 ghost use Rattle.calls.specs.Collection.{eraseBlock, eraseBlocks};
 ghost use Rattle.calls.specs.History.{lend};
@@ -35,18 +35,6 @@ pub fn erase_blocks(state: &mut [u8], spare: &mut [u32], d: Numbers, blocks: &[u
     let mut i = 0;
     while i < blocks.len() {
         erase_block(state, spare, d, blocks[i]);
-        i += 1;
-    }
-}
-
-// The blocks are listed in their order; later entries stay.
-pub fn list_erased(erased: &mut [u32], blocks: &[u32])
-    requires { ⌜ length (now blocks) ≤ length (now erased) ⌝ }
-    ensures { λ _. ⌜ now (erased .exit) ≡ store (now (erased .entry)) 0 (now (blocks .entry)) ⌝ }
-{
-    let mut i = 0;
-    while i < blocks.len() {
-        erased[i] = blocks[i];
         i += 1;
     }
 }

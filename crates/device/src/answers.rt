@@ -1,4 +1,8 @@
 // What the calls answer.
+ghost use mathlib.Core.Path.{_≡_};
+ghost use Rattle.calls.specs.Refusals.{refusalNumber};
+ghost use Rattle.device.specs.Answers.{refusalOf};
+
 pub enum Refusal {
     BadNumbers,
     BadLength,
@@ -58,4 +62,20 @@ pub enum Agreed {
 pub enum Listed {
     Done(u32),
     Refused(Refusal),
+}
+
+// Document 01's number of a refusal.
+pub fn number(r: Refusal) -> u32
+    ensures { λ n. ⌜ n ≡ refusalNumber (refusalOf r) ⌝ }
+{
+    match r {
+        Refusal::BadNumbers => 1,
+        Refusal::BadLength => 2,
+        Refusal::NotSound => 3,
+        Refusal::OutOfRange => 4,
+        Refusal::BadBatch => 5,
+        Refusal::NoFreeBlock => 6,
+        Refusal::NotNamed => 7,
+        Refusal::NothingToGain => 8,
+    }
 }

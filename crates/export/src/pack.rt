@@ -7,8 +7,8 @@ use device::answers::Formatted;
 use device::answers::Listed;
 use device::answers::Lookup;
 use device::answers::Refusal;
+use device::answers::number;
 ghost use mathlib.Core.Path.{_≡_};
-ghost use Rattle.calls.specs.Refusals.{refusalNumber};
 ghost use Rattle.calls.specs.Outcome.{refused};
 ghost use Rattle.device.specs.Answers.{refusalOf, formatAnswer, flushAnswer, lookupAnswer, collectAnswer, compactAnswer, agreeAnswer};
 ghost use Rattle.device.specs.Listing.{listAnswer};
@@ -23,27 +23,11 @@ const BIT56: u64 = 72057594037927936;
 
 const BIT60: u64 = 1152921504606846976;
 
-// Document 01's number of a refusal.
-fn number(r: Refusal) -> u64
-    ensures { λ n. ⌜ n ≡ refusalNumber (refusalOf r) ⌝ }
-{
-    match r {
-        Refusal::BadNumbers => 1,
-        Refusal::BadLength => 2,
-        Refusal::NotSound => 3,
-        Refusal::OutOfRange => 4,
-        Refusal::BadBatch => 5,
-        Refusal::NoFreeBlock => 6,
-        Refusal::NotNamed => 7,
-        Refusal::NothingToGain => 8,
-    }
-}
-
 // A refused call's answer.
 fn refused(r: Refusal) -> u64
     ensures { λ n. ⌜ n ≡ packed (refused (refusalOf r)) ⌝ }
 {
-    number(r) * BIT60
+    (number(r) as u64) * BIT60
 }
 
 pub fn format(a: Formatted) -> u64

@@ -17,14 +17,14 @@ ghost use Rattle.batch.specs.Keys.{writes};
 ghost use Rattle.device.specs.Reading.{readState};
 ghost use Rattle.device.specs.Shaped.{Shaped};
 
-// The plan gets the sources; later entries stay.
-fn plan_sources(plan: &mut [u32], sources: &[u32])
-    requires { ⌜ length (now sources) ≤ length (now plan) ⌝ }
-    ensures { λ _. ⌜ now (plan .exit) ≡ store (now (plan .entry)) 0 (now (sources .entry)) ⌝ }
+// The list gets the values, from its start on; later entries stay.
+pub fn store_front(list: &mut [u32], values: &[u32])
+    requires { ⌜ length (now values) ≤ length (now list) ⌝ }
+    ensures { λ _. ⌜ now (list .exit) ≡ store (now (list .entry)) 0 (now (values .entry)) ⌝ }
 {
     let mut i = 0;
-    while i < sources.len() {
-        plan[i] = sources[i];
+    while i < values.len() {
+        list[i] = values[i];
         i += 1;
     }
 }
@@ -53,5 +53,5 @@ pub fn write_block(
     set_count(state, d, k, n);
     take_in_all(state, d, pages, first);
     spare::program_block(spare, d, pages, k);
-    plan_sources(plan, sources);
+    store_front(plan, sources);
 }

@@ -5,7 +5,7 @@ use device::answers::Compacted;
 use device::answers::Flushed;
 use device::answers::Formatted;
 use device::answers::Lookup;
-use device::answers::Refusal;
+use device::answers::number;
 use device::compact::compact;
 use device::format::format;
 use device::lookup::lookup;
@@ -17,11 +17,10 @@ ghost use mathlib.Core.Path.{_≡_};
 ghost use mathlib.Core.List.{List};
 ghost use Prim.Native.Nat.{ℕ, _≤_};
 ghost use lib.ListN.{length, replicate};
-ghost use Rattle.calls.specs.Refusals.{refusalNumber};
 ghost use Rattle.calls.specs.Outcome.{number as numberOf};
 ghost use Rattle.calls.specs.History.{formatCall, flushCall, lookupCall, collectCall, compactCall};
 ghost use Rattle.spare.specs.Read.{numbersOf};
-ghost use Rattle.device.specs.Answers.{refusalOf, formatAnswer, flushAnswer, lookupAnswer, collectAnswer, compactAnswer};
+ghost use Rattle.device.specs.Answers.{formatAnswer, flushAnswer, lookupAnswer, collectAnswer, compactAnswer};
 ghost use Rattle.listing.specs.Memory.{takesDevice, Ready, Obeyed, callOf, Takes};
 
 // The lengths in use: bytes of state, spare entries, blocks, pages of a block. All are 0 until a format is accepted.
@@ -36,22 +35,6 @@ pub struct Held {
 pub enum Taken {
     Device(Held),
     Refused,
-}
-
-// Document 01's number of a refusal.
-pub fn number(r: Refusal) -> u32
-    ensures { λ n. ⌜ n ≡ refusalNumber (refusalOf r) ⌝ }
-{
-    match r {
-        Refusal::BadNumbers => 1,
-        Refusal::BadLength => 2,
-        Refusal::NotSound => 3,
-        Refusal::OutOfRange => 4,
-        Refusal::BadBatch => 5,
-        Refusal::NoFreeBlock => 6,
-        Refusal::NotNamed => 7,
-        Refusal::NothingToGain => 8,
-    }
 }
 
 fn looked_up(a: Lookup) -> u32

@@ -36,8 +36,8 @@ few c =
     let shape = c .pre .0 .0 .shape in
     omega (arith, ap (λ (l : List ℕ). length l) (c .pre .1 .2), blocks-few (readState (c .args .state .now)) (c .args .spare .now) _ (shape .numbers) (shape .limits) (length-counts _ _ shape))
 
-list-erased-requires : tie.Need-list-erased-requires
-list-erased-requires c κs = omega (arith, few (c .before .before .before .before .before .before .before .before .before .before .before .before .before .before .before .before .before .before .before .before .before .before .before .before .before), c .before .before .before .before .before .before .before .before .before .before .before .before .before .before .before .before .before .before .before .before .before .before .before .before .before .pre .0 .2)
+store-front-requires : tie.Need-store-front-requires
+store-front-requires c κs = omega (arith, few (c .before .before .before .before .before .before .before .before .before .before .before .before .before .before .before .before .before .before .before .before .before .before .before .before .before), c .before .before .before .before .before .before .before .before .before .before .before .before .before .before .before .before .before .before .before .before .before .before .before .before .before .pre .0 .2)
 
 cast-t24 : tie.Need-cast-t24
 cast-t24 c =
@@ -65,7 +65,7 @@ returns c =
     let pre = c .before .before .before .before .before .before .before .before .before .before .before .before .before .before .before .before .before .before .before .before .before .before .before .before .before .before .before .before .pre in
     let moved = c .before .before .before .before .before .before .before .before .before .before .before .before .before .before .before .before .before .write-moves .ensures in
     let cleared = c .before .before .before .before .before .before .before .before .erase-blocks .ensures in
-    let listed = c .before .before .list-erased .ensures in (
+    let listed = c .before .before .store-front .ensures in (
       collection-answer _ _ _ _ _ _ _ _ _ _ _ (moved .1) (pre .1 .2) cleared listed _ _ (moved .0) (pre .1 .0),
       collection-left _ _ _ _ _ _ _ _ _ _ _ (moved .1) (pre .1 .2) cleared listed,
     )
@@ -76,7 +76,7 @@ carry-out-spec =
     (tie.spec
     write-moves-requires
     erase-blocks-requires
-    list-erased-requires
+    store-front-requires
     cast-t24
     cast-t26
     same-length

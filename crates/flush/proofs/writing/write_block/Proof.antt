@@ -41,8 +41,8 @@ take-in-all-requires c κs =
 program-block-requires : tie.Need-program-block-requires
 program-block-requires c κs = search needs
 
-plan-sources-requires : tie.Need-plan-sources-requires
-plan-sources-requires c κs = search needs
+store-front-requires : tie.Need-store-front-requires
+store-front-requires c κs = search needs
 
 same-length : tie.Need-same-length
 same-length c = search needs
@@ -57,7 +57,7 @@ returns : tie.Need-returns
 returns c =
     let at-start = c .before .before .before .before .before .before .before .before .before .before .before .before .before .before .before .before .before .before .before .before .before .before in (
       records-taken _ _ (at-start .pre .0 .0) _ (at-start .pre .0 .4) _ _ (c .before .before .before .before .before .before .before .before .before .before .before .before .before .before .set-count .ensures) _ _ _ _ (c .before .before .before .before .before .before .before .before .before .before .take-in-all .ensures) (omega arith) (omega arith) (at-start .pre .1 .3),
-      (c .before .before .before .before .before .before .program-block .ensures, c .before .before .plan-sources .ensures),
+      (c .before .before .before .before .before .before .program-block .ensures, c .before .before .store-front .ensures),
     )
 
 pub write-block-spec : {M : Type 1} → statement M
@@ -69,7 +69,7 @@ write-block-spec =
     set-count-requires
     take-in-all-requires
     program-block-requires
-    plan-sources-requires
+    store-front-requires
     same-length
     same-length-2
     same-length-3

@@ -1,33 +1,33 @@
--- At each turn the whole plan is what is left to store; the next source is stored. Assumes nothing.
+-- At each turn what is left to store makes the whole; the next value is stored. Assumes nothing.
 use native.Mathlib.Omega.{arith}
 use mathlib.Core.Path.{_≡_, refl}
 use Prim.Native.Nat.{_-_, _≤_}
 use lib.ListN.{length, drop, length-set, drop-of-length-le}
 use Rattle.model.specs.Lists.{store}
 use Rattle.batch.proofs.SortStores.{stored-on, stored-all, drop-next}
-use Rattle.flush.proofs.writing.plan_sources.Statement.{statement}
-use Rattle.flush.proofs.writing.plan_sources.Tie as tie
+use Rattle.flush.proofs.writing.store_front.Statement.{statement}
+use Rattle.flush.proofs.writing.store_front.Tie as tie
 
 abbrev Inv-loop : tie.InvT-loop
-Inv-loop plan₀ sources i₀ plan i = (i ≤ length sources) × (length plan ≡ length plan₀) × (store plan₀ 0 sources ≡ store plan i (drop i sources))
+Inv-loop list₀ values i₀ list i = (i ≤ length values) × (length list ≡ length list₀) × (store list₀ 0 values ≡ store list i (drop i values))
 
 abbrev μ-loop : tie.MeasureT-loop
-μ-loop plan₀ sources i₀ plan i = length sources - i
+μ-loop list₀ values i₀ list i = length values - i
 
 loop-holds : tie.Need-loop-holds Inv-loop μ-loop
 loop-holds c = (omega arith, refl, refl)
 
-mul-plan : tie.Need-mul-plan Inv-loop μ-loop
-mul-plan c = omega arith
+mul-list : tie.Need-mul-list Inv-loop μ-loop
+mul-list c = omega arith
 
-shared-slice-read-plan : tie.Need-shared-slice-read-plan Inv-loop μ-loop
-shared-slice-read-plan c = omega arith
+shared-slice-read-list : tie.Need-shared-slice-read-list Inv-loop μ-loop
+shared-slice-read-list c = omega arith
 
-mul-plan-2 : tie.Need-mul-plan-2 Inv-loop μ-loop
-mul-plan-2 c = omega arith
+mul-list-2 : tie.Need-mul-list-2 Inv-loop μ-loop
+mul-list-2 c = omega arith
 
-slice-write-plan : tie.Need-slice-write-plan Inv-loop μ-loop
-slice-write-plan c = omega arith
+slice-write-list : tie.Need-slice-write-list Inv-loop μ-loop
+slice-write-list c = omega arith
 
 add-i : tie.Need-add-i Inv-loop μ-loop
 add-i c = omega arith
@@ -49,17 +49,17 @@ same-length c = omega arith
 returns : tie.Need-returns Inv-loop μ-loop
 returns c = stored-all _ _ _ _ (c .before .loop .inv .2) (drop-of-length-le _ (c .loop-test .left))
 
-pub plan-sources-spec : {M : Type 1} → statement M
-plan-sources-spec =
+pub store-front-spec : {M : Type 1} → statement M
+store-front-spec =
     tie.close
     (tie.spec
     Inv-loop
     μ-loop
     loop-holds
-    mul-plan
-    shared-slice-read-plan
-    mul-plan-2
-    slice-write-plan
+    mul-list
+    shared-slice-read-list
+    mul-list-2
+    slice-write-list
     add-i
     loop-less
     loop-again

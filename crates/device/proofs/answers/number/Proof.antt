@@ -1,10 +1,10 @@
 -- One number for each refusal.
 use mathlib.Core.Path.{sym, ap}
 use Rattle.calls.specs.Refusals.{refusalNumber}
 use Rattle.device.specs.Answers.{refusalOf}
 use borrow.Author.Needs.{needs}
-use Rattle.listing.proofs.lent.number.Statement.{statement}
-use Rattle.listing.proofs.lent.number.Tie as tie
+use Rattle.device.proofs.answers.number.Statement.{statement}
+use Rattle.device.proofs.answers.number.Tie as tie
 
 enum-told : tie.Need-enum-told
 enum-told c = search needs
