@@ -2,7 +2,7 @@
 use mathlib.Core.Path.{_≡_, refl, sym, ap, _∙_, subst}
 use mathlib.Core.List.{List, [], _∷_}
 use mathlib.Core.Bool.{true, true≢false, _&&_}
-use Prim.Native.Nat.{ℕ, zero, suc, _+_, _*_, _%_, _≤_, _<_}
+use Prim.Native.Nat.{ℕ, zero, suc, _+_, _%_, _≤_, _<_}
 use native.Mathlib.Omega.{arith}
 use lib.Dec.{ltb, eqb, leb}
 use lib.ListN.{length, getD, take, drop, length-drop}
@@ -23,13 +23,12 @@ use Rattle.model.proofs.SoundRecord.{record-parts, sound-ascends, owned-member}
 use Rattle.model.proofs.Order.{sound-within}
 use Rattle.record.specs.declared.Record as struct
 use Rattle.record.specs.Read.{asRecord, bare}
-use Rattle.record.specs.Coding.{recordAt}
 use Rattle.group.proofs.Owned.{asc-same}
 use Rattle.table.proofs.ListWrites.{all-at}
-use Rattle.learn.specs.Runs.{encoded, counts}
-use Rattle.learn.proofs.RunsReadBack.{learned-at, count-at}
+use Rattle.learn.specs.Runs.{records, counts}
+use Rattle.learn.proofs.RunsReadBack.{record-at, count-at}
 use Rattle.device.proofs.Tables.{length-from, getD-from}
-use Rattle.intake.specs.Handed.{place, offsets, offsetsAt, ownedOf, learnedAt, runGroup, runAt, runsFrom}
+use Rattle.intake.specs.Handed.{place, offsets, offsetsAt, ownedOf, owning, noRecord, learnedAt, runGroup, runAt, runsFrom}
 use Rattle.intake.specs.Taking.{Learned}
 use Rattle.intake.proofs.Offsets.{offset-elem, offsets-asc, offset-below}
 
@@ -93,9 +92,9 @@ noRun : Run
 noRun = record { group = 0; learned = record { start = 0; span = 0; word = 0; intercept = pos 0; owned = [] }; taken = 0 }
 
 -- A batch that was learned into `out` and `taken`, which held anything before.
-module _ (N g p : ℕ) (w : List ℕ) (up : ascending w ≡ true) (below : all (λ x. ltb x N) w ≡ true) (pages : p + length w ≤ 2097152)
-    (o₀ t₀ : List ℕ) (room : 8 * length w ≤ length o₀) (places : length w ≤ length t₀)
-    (out taken : List ℕ) (stored : out ≡ store o₀ 0 (encoded (learn g p w))) (counted : taken ≡ store t₀ 0 (counts (learn g p w)))
+module _ (N g p : ℕ) (w : List ℕ) (up : ascending w ≡ true) (below : all (λ x. ltb x N) w ≡ true)
+    (o₀ : List struct.Record) (t₀ : List ℕ) (room : length w ≤ length o₀) (places : length w ≤ length t₀)
+    (out : List struct.Record) (taken : List ℕ) (stored : out ≡ store o₀ 0 (records (learn g p w))) (counted : taken ≡ store t₀ 0 (counts (learn g p w)))
     (n : ℕ) (size : n ≡ length (learn g p w)) where
   -- the runs
   abbrev rs : List Run
@@ -125,10 +124,10 @@ module _ (N g p : ℕ) (w : List ℕ) (up : ascending w ≡ true) (below : all (
       omega (arith, ltb-true (getD w (a .index) 0) N (all-at (λ x. ltb x N) w (a .index) 0 (a .inside) below), a .here)))
 
   learned-is : (j : ℕ) → j < length rs → learnedAt w out taken j ≡ run j .learned
-  unfolding learnedAt
+  unfolding owning
   learned-is j h =
       ap (λ (x : struct.Record). asRecord x (ownedOf (kindOf (x .word)) (offsetsAt w taken j)))
-      (ap (λ (l : List ℕ). recordAt l (8 * j)) stored ∙ learned-at o₀ g p w up pages room j noRun h)
+      (ap (λ (l : List struct.Record). getD l j noRecord) stored ∙ record-at o₀ rs j noRun noRecord h (omega (arith, few)))
       ∙ ap (λ (m : ℕ). asRecord (bare (run j .learned)) (ownedOf (kind (run j .learned)) (offsets w (place taken j) m))) (count-is j h)
       ∙ ap (λ (os : List ℕ). asRecord (bare (run j .learned)) os) (owned-are w (boundsOf g p w) (found j h .first) (place taken j) (run j) (found j h .part) N (sound-is j h) (asc-of w up))
 
@@ -157,27 +156,24 @@ module _ (N g p : ℕ) (w : List ℕ) (up : ascending w ≡ true) (below : all (
       let c = found m (omega arith) .part in
       omega (arith, count-is m (omega arith), c .filled, c .inside, length-drop (place taken m) w)
 
-  members-read : (i o : ℕ) → i < n → o < 256 → member (learnedAt w out taken i) o ≡ elem o (offsetsAt w taken i)
-  members-read i o h l =
-      let b : i < length rs = omega arith in
-      ap (λ (x : Record). member x o) (learned-is i b)
-      ∙ members-are w (boundsOf g p w) (found i b .first) (place taken i) (run i) (found i b .part) o l
-      ∙ ap (λ (m : ℕ). elem o (offsets w (place taken i) m)) (sym (count-is i b))
-
   -- They are handed over, and their records are sound.
   pub handed-over : length w ≤ 256 → Learned N w out taken n
   handed-over h = record {
-    ascends = up;
-    below = below;
-    few = omega (arith, few);
-    handed = record {
+    sorted = record {
+      ascends = up;
+      below = below;
+      few = omega (arith, few);
       counted = record {
         counts = omega (arith, ap (λ (l : List ℕ). length l) counted, length-store t₀ 0 (counts rs), few);
         filled = λ i l. omega (arith, count-is i (omega arith), found i (omega arith) .part .filled);
         pages = place-inside n (omega arith);
       };
-      records = omega (arith, ap (λ (l : List ℕ). length l) stored, length-store o₀ 0 (encoded rs), few);
-      members = members-read;
     };
+    records = omega (arith, ap (λ (l : List struct.Record). length l) stored, length-store o₀ 0 (records rs), few);
+    members = λ i l o lt.
+        let b : i < length rs = omega arith in
+        ap (λ (x : Record). member x o) (learned-is i b)
+        ∙ members-are w (boundsOf g p w) (found i b .first) (place taken i) (run i) (found i b .part) o lt
+        ∙ ap (λ (m : ℕ). elem o (offsets w (place taken i) m)) (sym (count-is i b));
     sound = λ i l. let b : i < length rs = omega arith in rw (group-is i b, learned-is i b) (sound-is i b);
   }

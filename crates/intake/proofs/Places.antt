@@ -1,14 +1,19 @@
--- The places of runs in the batch: one behind the other, inside it; and fewer runs of those handed over. Assumes nothing.
-use mathlib.Core.Path.{_≡_}
+-- The places of runs in the batch: one behind the other, inside it; and fewer of the runs. Assumes nothing.
+use mathlib.Core.Path.{_≡_, refl}
 use mathlib.Core.List.{List}
 use Prim.Native.Nat.{ℕ, zero, suc, _+_, _-_, _≤_, _<_}
 use native.Mathlib.Omega.{arith}
 use native.Mathlib.Nat.{le-refl}
 use native.Mathlib.Numerals.{add-one}
 use lib.ListN.{length, getD}
-use Rattle.intake.specs.Handed.{place, Handed, Counted}
+use Rattle.intake.specs.Handed.{place, Counted}
 
 module _ (taken : List ℕ) where
+  -- the first run's
+  pub place-none : 0 ≡ place taken 0
+  unfolding place
+  place-none = refl
+
   place-on : (m i j : ℕ) → i + m ≡ j → place taken i ≤ place taken j
   unfolding place
   place-on zero i j e = let q : i ≡ j = omega arith in rw q (le-refl _)
@@ -37,14 +42,10 @@ module _ (w taken : List ℕ) (n : ℕ) (c : Counted w taken n) (i : ℕ) (h : i
   pub page-inside : place taken i < length w
   page-inside = omega (arith, pages-inside, c .filled i h)
 
--- Fewer runs are handed over with more.
-pub fewer : (w out taken : List ℕ) (m n : ℕ) → m ≤ n → Handed w out taken n → Handed w out taken m
-fewer w out taken m n h c = record {
-  counted = record {
-    counts = omega (arith, c .counted .counts);
-    filled = λ i l. c .counted .filled i (omega arith);
-    pages = omega (arith, place-le taken m n h, c .counted .pages);
-  };
-  records = omega (arith, c .records);
-  members = λ i o l b. c .members i o (omega arith) b;
+-- Fewer runs are there with more.
+pub fewer : (w taken : List ℕ) (m n : ℕ) → m ≤ n → Counted w taken n → Counted w taken m
+fewer w taken m n h c = record {
+  counts = omega (arith, c .counts);
+  filled = λ i l. c .filled i (omega arith);
+  pages = omega (arith, place-le taken m n h, c .pages);
 }

@@ -1,33 +1,29 @@
--- A group's own runs, taken in by it, and those left make the whole: the batch ascends, so a group's runs stand together. Assumes nothing.
+-- A group makes room for its own runs, and there is room for those left: the batch ascends, so a group's runs stand together. Assumes nothing.
 use mathlib.Core.Path.{_≡_, refl, sym, ap, _∙_}
-use mathlib.Core.List.{List, [], _++_, append-nil}
+use mathlib.Core.List.{List, []}
 use mathlib.Core.Bool.{Bool, true, false}
 use Prim.Native.Nat.{ℕ, _+_, _-_, _/_, _≤_, _<_}
 use native.Mathlib.Omega.{arith}
 use lib.Dec.{ltb, eqb}
 use lib.ListN.{length, getD, set, length-set}
-use lib.Seq.{getD-set-same, getD-set-other, ext-getD}
+use lib.Seq.{getD-set-same, getD-set-other}
 use borrow.Author.Tests.{ltb-true, ltb-false, eqb-true, eqb-false}
 use Rattle.model.specs.Lists.{all, ascending}
 use Rattle.model.specs.Device.{Device, groupCount}
-use Rattle.model.specs.Record.{Record}
-use Rattle.model.specs.Learning.{recordsFor}
-use Rattle.model.specs.Levels.{Group, takeIn, takeInAll}
+use Rattle.model.specs.Levels.{Group}
 use Rattle.model.specs.State.{State, withGroups, groupAt}
-use Rattle.model.specs.Sound.{soundRecord, soundGroup, soundGroups}
-use Rattle.model.proofs.SoundGroup.{takeIn-sound}
+use Rattle.model.specs.Sound.{soundGroup, soundGroups}
 use Rattle.model.proofs.SoundGroups.{group-sound, set-sound}
-use Rattle.model.proofs.TakeIn.{takeInAll-length, takeInAll-at}
 use Rattle.table.proofs.ListWrites.{all-at}
 use Rattle.learn.proofs.Ascent.{rises}
-use Rattle.intake.specs.Handed.{place, learnedAt, recordsFrom, runGroup, runAt, runsFrom, Counted, Ends}
-use Rattle.intake.specs.Taking.{Took}
-use Rattle.intake.proofs.Listed.{records-count, from-split, from-passes, append-for, for-own, for-other}
+use Rattle.intake.specs.Handed.{place, runGroup, runsIn, Counted, Ends}
+use Rattle.intake.specs.Taking.{room, Roomed}
+use Rattle.intake.proofs.Listed.{in-own, in-other, in-split}
 use Rattle.intake.proofs.Places.{place-le, page-inside}
-use Rattle.intake.proofs.Compacting.{takes-none}
+use Rattle.intake.proofs.Rooms.{room-none, room-sound}
 
 -- Group k's own of n runs, from run i to j: run i lies in it.
-module _ (w out taken : List ℕ) (n k i j : ℕ) (c : Counted w taken n) (up : ascending w ≡ true) (inside : i < n) (here : runGroup w taken i ≡ k) (e : Ends w taken n k i j) where
+module _ (w taken : List ℕ) (n k i j : ℕ) (c : Counted w taken n) (up : ascending w ≡ true) (inside : i < n) (here : runGroup w taken i ≡ k) (e : Ends w taken n k i j) where
   -- they are one at least
   pub ends-on : i < j
   ends-on = go (ltb i j) refl
@@ -56,82 +52,46 @@ module _ (w out taken : List ℕ) (n k i j : ℕ) (c : Counted w taken n) (up : 
       behind (omega (arith, groups-rise i j (e .own .from) (omega arith), groups-rise j m h l, here, q))
 
   -- the runs from run i on are they and those behind them
-  runs-parted : runsFrom w out taken i (n - i) ≡ runsFrom w out taken i (j - i) ++ runsFrom w out taken j (n - j)
-  unfolding runsFrom
-  runs-parted = from-split (runAt w out taken) i (j - i) j (n - j) (n - i) (omega (arith, e .own .from)) (omega (arith, e .own .from, e .own .to))
+  parted : (q : ℕ) → runsIn w taken q i (n - i) ≡ runsIn w taken q i (j - i) + runsIn w taken q j (n - j)
+  parted q = in-split w taken q i (j - i) j (n - j) (n - i) (omega (arith, e .own .from)) (omega (arith, e .own .from, e .own .to))
 
-  -- none of those behind them is the group's
-  records-gone : recordsFor k (runsFrom w out taken j (n - j)) ≡ []
-  records-gone = for-other w out taken k j (n - j) (λ m h l. apart m h (omega (arith, e .own .to)))
+  -- the group's are they, and none behind them; another's are all behind them
+  count-gone : runsIn w taken k j (n - j) ≡ 0
+  count-gone = in-other w taken k j (n - j) (λ m h l. apart m h (omega (arith, e .own .to)))
 
-  -- the records for the group are theirs, and for another group those of the runs behind them
-  records-here : recordsFor k (runsFrom w out taken i (n - i)) ≡ recordsFrom w out taken i (j - i)
-  records-here =
-      ap (recordsFor k) runs-parted
-      ∙ append-for k (runsFrom w out taken i (j - i)) (runsFrom w out taken j (n - j))
-      ∙ ap (λ (s : List Record). s ++ recordsFor k (runsFrom w out taken j (n - j))) (for-own w out taken k i (j - i) (λ m h l. e .own .inside m h (omega (arith, e .own .from))))
-      ∙ ap (λ (s : List Record). recordsFrom w out taken i (j - i) ++ s) records-gone
-      ∙ append-nil (recordsFrom w out taken i (j - i))
+  count-here : runsIn w taken k i (n - i) ≡ j - i
+  count-here = omega (arith, parted k, count-gone, in-own w taken k i (j - i) (λ m h l. e .own .inside m h (omega (arith, e .own .from))))
 
-  records-other : (q : ℕ) → (q ≡ k → ⊥) → recordsFor q (runsFrom w out taken i (n - i)) ≡ recordsFor q (runsFrom w out taken j (n - j))
-  records-other q f =
-      ap (recordsFor q) runs-parted
-      ∙ append-for q (runsFrom w out taken i (j - i)) (runsFrom w out taken j (n - j))
-      ∙ ap (λ (s : List Record). s ++ recordsFor q (runsFrom w out taken j (n - j)))
-      (for-other w out taken q i (j - i) (λ m h l g. f (sym g ∙ e .own .inside m h (omega (arith, e .own .from)))))
+  count-other : (q : ℕ) → (q ≡ k → ⊥) → runsIn w taken q i (n - i) ≡ runsIn w taken q j (n - j)
+  count-other q f =
+      omega (arith, parted q, in-other w taken q i (j - i) (λ m h l g. f (sym g ∙ e .own .inside m h (omega (arith, e .own .from)))))
 
-  module _ (N : ℕ) (fits : (m : ℕ) → m < n → soundRecord N (runGroup w taken m) (learnedAt w out taken m) ≡ true) where
-    -- Their records are sound in the group.
-    pub own-sound : all (soundRecord N k) (recordsFrom w out taken i (j - i)) ≡ true
-    unfolding recordsFrom
-    own-sound = from-passes (soundRecord N k) (learnedAt w out taken) i (j - i) (λ m h l.
-        let b : m < j = omega (arith, e .own .from) in
-        ap (λ (g : ℕ). soundRecord N g (learnedAt w out taken m)) (sym (e .own .inside m h b)) ∙ fits m (omega (arith, e .own .to)))
+  -- The group has made room for them.
+  pub roomed-own : (N : ℕ) (s t : State) → soundGroups N 0 (s .groups) ≡ true → k < length (s .groups)
+      → t ≡ withGroups (set (s .groups) k (room (j - i) (groupAt s k))) s → Roomed N w taken n s t i j
+  unfolding withGroups groupAt
+  roomed-own N s t sound exists done =
+      let is : t .groups ≡ set (s .groups) k roomy = ap (λ (x : State). x .groups) done in
+      record {
+        groups = done ∙ ap (λ (l : List Group). withGroups l s) (sym is);
+        size = ap length is ∙ length-set (s .groups) k roomy;
+        sound = ap (soundGroups N 0) is ∙ set-sound N k (s .groups) roomy sound roomy-sound;
+        left = λ q. same q (eqb q k) refl ∙ ap (λ (l : List Group). room (runsIn w taken q j (n - j)) (getD l q [])) (sym is);
+      }
+    where
+      roomy : Group
+      roomy = room (j - i) (getD (s .groups) k [])
 
-    module _ (few : n ≤ 256) (gs : List Group) (sound : soundGroups N 0 gs ≡ true) (exists : k < length gs) where
-      -- the group with them taken in
-      abbrev grown : Group
-      grown = takeIn (recordsFrom w out taken i (j - i)) (getD gs k [])
+      roomy-sound : soundGroup N k roomy ≡ true
+      roomy-sound = room-sound (j - i) (getD (s .groups) k []) N k (group-sound N k (s .groups) sound)
 
-      grown-sound : soundGroup N k grown ≡ true
-      grown-sound =
-          takeIn-sound N k (recordsFrom w out taken i (j - i)) (getD gs k []) (group-sound N k gs sound) own-sound
-          (omega (arith, records-count w out taken i (j - i), e .own .to))
-
-      -- group by group
-      grown-left : takeInAll 0 (runsFrom w out taken i (n - i)) gs ≡ takeInAll 0 (runsFrom w out taken j (n - j)) (set gs k grown)
-      grown-left =
-          ext-getD [] _ _
-          (takeInAll-length 0 (runsFrom w out taken i (n - i)) gs ∙ sym (takeInAll-length 0 (runsFrom w out taken j (n - j)) (set gs k grown) ∙ length-set gs k grown))
-          (λ q h.
-          let l : q < length gs = omega (arith, h, takeInAll-length 0 (runsFrom w out taken i (n - i)) gs) in
-          let z : 0 + q ≡ q = omega arith in
-          (rw z at (takeInAll-at 0 (runsFrom w out taken i (n - i)) gs q l))
-          ∙ same q l (eqb q k) refl
-          ∙ sym (rw z at (takeInAll-at 0 (runsFrom w out taken j (n - j)) (set gs k grown) q (omega (arith, length-set gs k grown)))))
-        where
-          same : (q : ℕ) → q < length gs → (t : Bool) → eqb q k ≡ t
-              → takeIn (recordsFor q (runsFrom w out taken i (n - i))) (getD gs q []) ≡ takeIn (recordsFor q (runsFrom w out taken j (n - j))) (getD (set gs k grown) q [])
-          same q l true t =
-              let h : q ≡ k = eqb-true q k t in
-              rw (h, records-here, records-gone, getD-set-same gs k grown [] exists) (sym (takes-none N k grown grown-sound))
-          same q l false t =
-              let f : q ≡ k → ⊥ = eqb-false q k t in
-              rw (records-other q f, getD-set-other gs k q grown [] f)
-
-    -- The group has taken them in.
-    pub took-own : (few : n ≤ 256) (s t : State) → soundGroups N 0 (s .groups) ≡ true → k < length (s .groups)
-        → t ≡ withGroups (set (s .groups) k (takeIn (recordsFrom w out taken i (j - i)) (groupAt s k))) s
-        → Took N w out taken n s t i j
-    unfolding withGroups groupAt
-    took-own few s t sound exists done =
-        let gs : List Group = set (s .groups) k (grown few (s .groups) sound exists) in
-        let is : t .groups ≡ gs = ap (λ (x : State). x .groups) done in
-        record {
-          groups = done ∙ ap (λ (l : List Group). withGroups l s) (sym is);
-          sound = ap (soundGroups N 0) is ∙ set-sound N k (s .groups) (grown few (s .groups) sound exists) sound (grown-sound few (s .groups) sound exists);
-          left = grown-left few (s .groups) sound exists ∙ ap (takeInAll 0 (runsFrom w out taken j (n - j))) (sym is);
-        }
+      same : (q : ℕ) (t : Bool) → eqb q k ≡ t → room (runsIn w taken q i (n - i)) (getD (s .groups) q []) ≡ room (runsIn w taken q j (n - j)) (getD (set (s .groups) k roomy) q [])
+      same q true t =
+          let h : q ≡ k = eqb-true q k t in
+          rw (h, count-here, count-gone, getD-set-same (s .groups) k roomy [] exists) (sym (room-none N k roomy roomy-sound))
+      same q false t =
+          let f : q ≡ k → ⊥ = eqb-false q k t in
+          rw (count-other q f, getD-set-other (s .groups) k q roomy [] f)
 
 -- A run's group is one of the device's.
 pub group-exists : (d : Device) (w taken : List ℕ) (n i : ℕ) → Counted w taken n → i < n → all (λ x. ltb x (d .N)) w ≡ true → runGroup w taken i < groupCount d

@@ -1,17 +1,19 @@
 -- Document 01, 'Learning a batch': "The learned records are handed to the table as one list, in ascending order, with the sorted
--- batch beside it; an approximate record owns the offsets of its run." How run i is read: its record from the eight bytes at 8 × i
--- of `out`, how many pages it takes from place i of `taken`, and these pages, behind those of the runs before it, from the batch.
--- Assumes nothing.
+-- batch beside it; an approximate record owns the offsets of its run." How run i is read: its record and how many pages it takes
+-- from place i of `out` and of `taken`, and these pages, behind those of the runs before it, from the batch. Assumes nothing.
 use mathlib.Core.Path.{_≡_}
+use mathlib.Core.Bool.{true, false}
 use mathlib.Core.List.{List, [], map}
-use Prim.Native.Nat.{ℕ, zero, suc, _+_, _*_, _≤_, _<_}
+use Prim.Native.Nat.{ℕ, zero, suc, _+_, _≤_, _<_}
+use lib.Dec.{ltb, eqb}
+use lib.IntN.{pos}
 use lib.ListN.{length, getD, take, drop}
-use Rattle.model.specs.Lists.{elem}
+use Rattle.model.specs.Lists.{all, elem, ascending}
 use Rattle.model.specs.Device.{groupOf, offsetOf}
 use Rattle.model.specs.Record.{Record, Kind, single, accurate, approximate, kindOf, member}
 use Rattle.model.specs.Learning.{Run}
+use Rattle.record.specs.declared.Record as struct
 use Rattle.record.specs.Read.{asRecord}
-use Rattle.record.specs.Coding.{recordAt}
 use Rattle.device.specs.Reading.{listFrom}
 
 -- the place in the batch of run i's first page
@@ -37,21 +39,29 @@ ownedOf (approximate a) os = os
 unfoldable pub runGroup : List ℕ → List ℕ → ℕ → ℕ
 runGroup w taken i = groupOf (getD w (place taken i) 0)
 
--- run i's record
-unfoldable pub learnedAt : List ℕ → List ℕ → List ℕ → ℕ → Record
-learnedAt w out taken i = asRecord (recordAt out (8 * i)) (ownedOf (kindOf (recordAt out (8 * i) .word)) (offsetsAt w taken i))
+-- run i's record, of which r has the four numbers
+unfoldable pub owning : List ℕ → List ℕ → ℕ → struct.Record → Record
+owning w taken i r = asRecord r (ownedOf (kindOf (r .word)) (offsetsAt w taken i))
+
+-- what is read where no record is
+abbrev pub noRecord : struct.Record
+noRecord = record { start = 0; span = 0; word = 0; intercept = pos 0 }
+
+abbrev pub learnedAt : List ℕ → List struct.Record → List ℕ → ℕ → Record
+learnedAt w out taken i = owning w taken i (getD out i noRecord)
 
 -- run i
-unfoldable pub runAt : List ℕ → List ℕ → List ℕ → ℕ → Run
+unfoldable pub runAt : List ℕ → List struct.Record → List ℕ → ℕ → Run
 runAt w out taken i = record { group = runGroup w taken i; learned = learnedAt w out taken i; taken = getD taken i 0 }
 
 -- the n runs from run i on
-unfoldable pub runsFrom : List ℕ → List ℕ → List ℕ → ℕ → ℕ → List Run
+unfoldable pub runsFrom : List ℕ → List struct.Record → List ℕ → ℕ → ℕ → List Run
 runsFrom w out taken i n = listFrom (runAt w out taken) i n
 
--- their records
-unfoldable pub recordsFrom : List ℕ → List ℕ → List ℕ → ℕ → ℕ → List Record
-recordsFrom w out taken i n = listFrom (learnedAt w out taken) i n
+-- how many of them lie in group k
+unfoldable pub runsIn : List ℕ → List ℕ → ℕ → ℕ → ℕ → ℕ
+runsIn w taken k i zero = 0
+runsIn w taken k i (suc n) = elim (eqb (runGroup w taken i) k) [ true ↦ suc (runsIn w taken k (suc i) n) | false ↦ runsIn w taken k (suc i) n ]
 
 -- the pages of the first n runs are there, one at least for each
 pub record Counted (w taken : List ℕ) (n : ℕ) : Type 0 where
@@ -59,11 +69,16 @@ pub record Counted (w taken : List ℕ) (n : ℕ) : Type 0 where
   pub filled : (i : ℕ) → i < n → 1 ≤ getD taken i 0
   pub pages : place taken n ≤ length w
 
--- so are their records, each with the offsets of its run's pages for its members
-pub record Handed (w out taken : List ℕ) (n : ℕ) : Type 0 where
+-- the offsets of run i's pages are the members of its record
+abbrev pub Members : List ℕ → List ℕ → ℕ → struct.Record → Type 0
+Members w taken i r = (o : ℕ) → o < 256 → member (owning w taken i r) o ≡ elem o (offsetsAt w taken i)
+
+-- n runs beside a batch that ascends and lies below N
+pub record Sorted (N : ℕ) (w taken : List ℕ) (n : ℕ) : Type 0 where
+  pub ascends : ascending w ≡ true
+  pub below : all (λ x. ltb x N) w ≡ true
+  pub few : n ≤ 256
   pub counted : Counted w taken n
-  pub records : 8 * n ≤ length out
-  pub members : (i o : ℕ) → i < n → o < 256 → member (learnedAt w out taken i) o ≡ elem o (offsetsAt w taken i)
 
 -- the runs from run i to j, j not included, of n runs in all, lie in group k
 pub record Own (w taken : List ℕ) (n k i j : ℕ) : Type 0 where

@@ -1,9 +1,9 @@
 // The learned records are handed to the table: each group takes in its own of them.
 use device::numbers::group_end;
 use device::numbers::group_place;
+use record::Record;
 use spare::Numbers;
 ghost use mathlib.Core.Path.{_≡_};
-ghost use mathlib.Core.List.{[], _∷_};
 ghost use mathlib.Core.Bool.{true, false};
 ghost use Prim.Native.Nat.{ℕ, _+_, _<_, _≤_};
 ghost use lib.Dec.{ltb};
@@ -11,7 +11,7 @@ ghost use lib.ListN.{length, set};
 ghost use Rattle.model.specs.Lists.{all, elem, ascending};
 ghost use Rattle.model.specs.Device.{groupCount};
 ghost use Rattle.model.specs.Learning.{learn};
-ghost use Rattle.model.specs.Levels.{recordCount, insert, insertAll, takeIn, takeInAll};
+ghost use Rattle.model.specs.Levels.{recordCount, insert, takeInAll};
 ghost use Rattle.model.specs.State.{withGroups, groupAt};
 ghost use Rattle.model.specs.Sound.{soundRecord, soundGroup, soundGroups};
 ghost use Rattle.spare.specs.Read.{numbersOf};
@@ -19,8 +19,8 @@ ghost use Rattle.record.specs.Scan.{masked};
 ghost use Rattle.group.specs.Reading.{readGroup};
 ghost use Rattle.device.specs.Reading.{readState};
 ghost use Rattle.device.specs.Shaped.{Shaped};
-ghost use Rattle.intake.specs.Handed.{place, offsets, learnedAt, runsFrom, recordsFrom, Counted, Handed, Ends};
-ghost use Rattle.intake.specs.Taking.{Fits, Learned, Took};
+ghost use Rattle.intake.specs.Handed.{place, offsets, owning, runsFrom, Counted, Members, Sorted, Ends};
+ghost use Rattle.intake.specs.Taking.{room, Fits, InsertFits, Ready, inserted, Roomed, Learned};
 
 // A place in what is handed over: a run, and the first of its pages in the batch.
 struct Place {
@@ -42,77 +42,84 @@ fn mark(mask: &mut [u8], written: &[u32], at: usize, n: usize)
     }
 }
 
-// The run at a place is inserted into a group.
-fn put_in(b: &mut [u8], written: &[u32], out: &[u8], taken: &[u32], p: Place)
-    requires { ⌜ Handed (now written) (now out) (now taken) (p .run + 1) × (p .page ≡ place (now taken) (p .run)) ⌝ }
-    requires { ⌜ Fits (now b) (learnedAt (now written) (now out) (now taken) (p .run) ∷ []) × (recordCount (readGroup (now b)) < 512) ⌝ }
-    ensures { λ _. ⌜ readGroup (now (b .exit))
-        ≡ insert (learnedAt (now (written .entry)) (now (out .entry)) (now (taken .entry)) (p .run)) (readGroup (now (b .entry))) ⌝ }
+// Run p's record r is inserted into a group.
+fn put_in(b: &mut [u8], written: &[u32], taken: &[u32], p: Place, r: Record)
+    requires { ⌜ Counted (now written) (now taken) (p .run + 1) × (p .page ≡ place (now taken) (p .run)) × Members (now written) (now taken) (p .run) r ⌝ }
+    requires { ⌜ InsertFits (now b) (owning (now written) (now taken) (p .run) r) ⌝ }
+    ensures { λ _. ⌜ readGroup (now (b .exit)) ≡ insert (owning (now (written .entry)) (now (taken .entry)) (p .run) r) (readGroup (now (b .entry))) ⌝ }
 {
     let i = p.run;
-    let r = record::decode(out, 8 * i);
     let n = taken[i] as usize;
     let mut mask = [0u8; 256];
     mark(&mut mask, written, p.page, n);
     table::insert(b, r, &mask);
 }
 
-// The n runs from a place on are inserted into a group, one after the other.
-fn put_in_all(b: &mut [u8], written: &[u32], out: &[u8], taken: &[u32], p: Place, n: usize)
-    requires { ⌜ Handed (now written) (now out) (now taken) (p .run + n) × (p .page ≡ place (now taken) (p .run)) ⌝ }
-    requires { ⌜ Fits (now b) (recordsFrom (now written) (now out) (now taken) (p .run) n) × (recordCount (readGroup (now b)) + n ≤ 512) ⌝ }
-    ensures { λ _. ⌜ readGroup (now (b .exit))
-        ≡ insertAll (recordsFrom (now (written .entry)) (now (out .entry)) (now (taken .entry)) (p .run) n) (readGroup (now (b .entry))) ⌝ }
-{
-    let end = p.run + n;
-    let mut run = p.run;
-    let mut page = p.page;
-    while run < end {
-        put_in(b, written, out, taken, Place { run, page });
-        page += taken[run] as usize;
-        run += 1;
-    }
-}
-
-// A group takes in the n runs from a place on: if its records and these are together more than 512, it is compacted first.
-fn take_in(b: &mut [u8], written: &[u32], out: &[u8], taken: &[u32], p: Place, n: usize)
-    requires { ⌜ Handed (now written) (now out) (now taken) (p .run + n) × (p .page ≡ place (now taken) (p .run)) × (n ≤ 256) ⌝ }
-    requires { ⌜ Fits (now b) (recordsFrom (now written) (now out) (now taken) (p .run) n) ⌝ }
-    ensures { λ _. ⌜ readGroup (now (b .exit))
-        ≡ takeIn (recordsFrom (now (written .entry)) (now (out .entry)) (now (taken .entry)) (p .run) n) (readGroup (now (b .entry))) ⌝ }
-{
-    let used = group::record_count(b) as usize;
-    if 512 < used + n {
-        compaction::compact(b);
-        put_in_all(b, written, out, taken, p, n);
-        return;
-    }
-    put_in_all(b, written, out, taken, p, n);
-}
-
-// Group k of the state takes in the n runs from a place on.
-fn take_in_group(
+// Run p's record r is inserted into group k of the state.
+fn put_in_group(
     state: &mut [u8],
     d: Numbers,
     k: u32,
     written: &[u32],
-    out: &[u8],
     taken: &[u32],
     p: Place,
-    n: usize,
+    r: Record,
 )
-    requires { ⌜ Shaped (numbersOf d) (readState (now state)) × (k < groupCount (numbersOf d))
-        × (soundGroup (d .n) k (groupAt (readState (now state)) k) ≡ true) ⌝ }
-    requires { ⌜ Handed (now written) (now out) (now taken) (p .run + n) × (p .page ≡ place (now taken) (p .run)) × (n ≤ 256)
-        × (all (soundRecord (d .n) k) (recordsFrom (now written) (now out) (now taken) (p .run) n) ≡ true) ⌝ }
-    ensures { λ _. ⌜ readState (now (state .exit))
-        ≡ withGroups (set (readState (now (state .entry)) .groups) k
-        (takeIn (recordsFrom (now (written .entry)) (now (out .entry)) (now (taken .entry)) (p .run) n) (groupAt (readState (now (state .entry))) k)))
-        (readState (now (state .entry))) ⌝ }
+    requires { ⌜ Counted (now written) (now taken) (p .run + 1) × (p .page ≡ place (now taken) (p .run)) × Members (now written) (now taken) (p .run) r ⌝ }
+    requires { ⌜ Shaped (numbersOf d) (readState (now state)) × (k < groupCount (numbersOf d)) × (soundGroup (d .n) k (groupAt (readState (now state)) k) ≡ true)
+        × (recordCount (groupAt (readState (now state)) k) < 512) × (soundRecord (d .n) k (owning (now written) (now taken) (p .run) r) ≡ true) ⌝ }
+    ensures { λ _. ⌜ readState (now (state .exit)) ≡ withGroups (set (readState (now (state .entry)) .groups) k
+        (insert (owning (now (written .entry)) (now (taken .entry)) (p .run) r) (groupAt (readState (now (state .entry))) k))) (readState (now (state .entry))) ⌝ }
 {
     let a = group_place(d, k);
     let e = group_end(d, k);
-    take_in(&mut state[a..e], written, out, taken, p, n);
+    put_in(&mut state[a..e], written, taken, p, r);
+}
+
+// Run p's record r is inserted into the run's group. Answers the place of the next run.
+fn put_in_run(
+    state: &mut [u8],
+    d: Numbers,
+    written: &[u32],
+    taken: &[u32],
+    p: Place,
+    r: Record,
+) -> Place
+    requires { ⌜ Ready (numbersOf d) (now written) (now taken) (readState (now state)) (p .run) r × (p .page ≡ place (now taken) (p .run)) ⌝ }
+    ensures { λ q. ⌜ (q .run ≡ p .run + 1) × (q .page ≡ place (now (taken .entry)) (p .run + 1))
+        × (readState (now (state .exit)) ≡ inserted (now (written .entry)) (now (taken .entry)) (p .run) r (readState (now (state .entry)))) ⌝ }
+{
+    let page = p.page;
+    let i = p.run;
+    let k = written[page] / 256;
+    put_in_group(state, d, k, written, taken, p, r);
+    Place {
+        run: i + 1,
+        page: page + taken[i] as usize,
+    }
+}
+
+// A group makes room for n records of the batch: if its records and these are together more than 512, it is compacted.
+fn make_room(b: &mut [u8], n: usize)
+    requires { ⌜ Fits (now b) × (n ≤ 256) ⌝ }
+    ensures { λ _. ⌜ readGroup (now (b .exit)) ≡ room n (readGroup (now (b .entry))) ⌝ }
+{
+    let used = group::record_count(b) as usize;
+    if 512 < used + n {
+        compaction::compact(b);
+    }
+}
+
+// Group k of the state makes room for n records of the batch.
+fn make_room_in(state: &mut [u8], d: Numbers, k: u32, n: usize)
+    requires { ⌜ Shaped (numbersOf d) (readState (now state)) × (k < groupCount (numbersOf d))
+        × (soundGroup (d .n) k (groupAt (readState (now state)) k) ≡ true) × (n ≤ 256) ⌝ }
+    ensures { λ _. ⌜ readState (now (state .exit))
+        ≡ withGroups (set (readState (now (state .entry)) .groups) k (room n (groupAt (readState (now (state .entry))) k))) (readState (now (state .entry))) ⌝ }
+{
+    let a = group_place(d, k);
+    let e = group_end(d, k);
+    make_room(&mut state[a..e], n);
 }
 
 // The place of the first run from p on, of n runs in all, that doesn't lie in group k.
@@ -132,40 +139,61 @@ fn end_of(written: &[u32], taken: &[u32], n: usize, p: Place, k: u32) -> Place
     Place { run, page }
 }
 
-// The group of the run at a place takes in its own, the runs from there on that lie in it. Answers the place behind them.
-fn take_in_next(
+// The group of the run at a place makes room for its own, the runs from there on that lie in it. Answers the place behind them.
+fn make_room_next(
     state: &mut [u8],
     d: Numbers,
     written: &[u32],
-    out: &[u8],
     taken: &[u32],
     n: usize,
     p: Place,
 ) -> Place
     requires { ⌜ Shaped (numbersOf d) (readState (now state)) × (soundGroups (d .n) 0 (readState (now state) .groups) ≡ true) ⌝ }
-    requires { ⌜ Learned (d .n) (now written) (now out) (now taken) n × (p .run < n) × (p .page ≡ place (now taken) (p .run)) ⌝ }
+    requires { ⌜ Sorted (d .n) (now written) (now taken) n × (p .run < n) × (p .page ≡ place (now taken) (p .run)) ⌝ }
     ensures { λ r. ⌜ (p .run < r .run) × (r .run ≤ n) × (r .page ≡ place (now (taken .entry)) (r .run))
-        × Took (d .n) (now (written .entry)) (now (out .entry)) (now (taken .entry)) n (readState (now (state .entry))) (readState (now (state .exit))) (p .run) (r .run) ⌝ }
+        × Roomed (d .n) (now (written .entry)) (now (taken .entry)) n (readState (now (state .entry))) (readState (now (state .exit))) (p .run) (r .run) ⌝ }
 {
     let page = p.page;
     let k = written[page] / 256;
     let e = end_of(written, taken, n, p, k);
     let own = e.run - p.run;
-    take_in_group(state, d, k, written, out, taken, p, own);
+    make_room_in(state, d, k, own);
     e
 }
 
-// Each group takes in its own of the n runs.
-fn take_in_runs(state: &mut [u8], d: Numbers, written: &[u32], out: &[u8], taken: &[u32], n: usize)
-    requires { ⌜ Shaped (numbersOf d) (readState (now state)) × (soundGroups (d .n) 0 (readState (now state) .groups) ≡ true) ⌝ }
-    requires { ⌜ Learned (d .n) (now written) (now out) (now taken) n ⌝ }
+// Each group makes room for its own of the n runs.
+fn make_room_all(state: &mut [u8], d: Numbers, written: &[u32], taken: &[u32], n: usize)
+    requires { ⌜ Shaped (numbersOf d) (readState (now state)) × (soundGroups (d .n) 0 (readState (now state) .groups) ≡ true)
+        × Sorted (d .n) (now written) (now taken) n ⌝ }
+    ensures { λ _. ⌜ Roomed (d .n) (now (written .entry)) (now (taken .entry)) n (readState (now (state .entry))) (readState (now (state .exit))) 0 n ⌝ }
+{
+    let mut p = Place { run: 0, page: 0 };
+    while p.run < n {
+        p = make_room_next(state, d, written, taken, n, p);
+    }
+}
+
+// Each group takes in its own of the n runs whose records are handed over.
+fn take_in_runs(
+    state: &mut [u8],
+    d: Numbers,
+    written: &[u32],
+    out: &[Record],
+    taken: &[u32],
+    n: usize,
+)
+    requires { ⌜ Shaped (numbersOf d) (readState (now state)) × (soundGroups (d .n) 0 (readState (now state) .groups) ≡ true)
+        × Learned (d .n) (now written) (now out) (now taken) n ⌝ }
     ensures { λ _. ⌜ readState (now (state .exit))
         ≡ withGroups (takeInAll 0 (runsFrom (now (written .entry)) (now (out .entry)) (now (taken .entry)) 0 n) (readState (now (state .entry)) .groups))
         (readState (now (state .entry))) ⌝ }
 {
+    make_room_all(state, d, written, taken, n);
     let mut p = Place { run: 0, page: 0 };
     while p.run < n {
-        p = take_in_next(state, d, written, out, taken, n, p);
+        let i = p.run;
+        let r = out[i];
+        p = put_in_run(state, d, written, taken, p, r);
     }
 }
 
@@ -178,7 +206,12 @@ pub fn take_in_all(state: &mut [u8], d: Numbers, written: &[u32], first: u32)
         ≡ withGroups (takeInAll 0 (learn (d .g) first (now (written .entry))) (readState (now (state .entry)) .groups))
         (readState (now (state .entry))) ⌝ }
 {
-    let mut out = [0u8; 2048];
+    let mut out = [Record {
+        start: 0,
+        span: 0,
+        word: 0,
+        intercept: 0,
+    }; 256];
     let mut taken = [0u32; 256];
     let n = learn::runs::learn(written, first, d.g, &mut out, &mut taken);
     take_in_runs(state, d, written, &out, &taken, n);

@@ -1,7 +1,7 @@
--- What the code's values stand for, the parts of learning at a place of the sorted batch, and the records' bytes. Assumes nothing.
+-- What the code's values stand for, the parts of learning at a place of the sorted batch, and what is handed over of the runs. Assumes nothing.
 use mathlib.Core.Path.{_≡_}
 use mathlib.Core.Bool.{true}
-use mathlib.Core.List.{List, [], _∷_, _++_}
+use mathlib.Core.List.{List, [], _∷_}
 use Prim.Native.Nat.{ℕ, _+_, _*_, _-_, _/_, _%_, _≤_}
 use lib.ListN.{length, getD, drop}
 use lib.IntN.{subℕ}
@@ -10,7 +10,6 @@ use Rattle.model.specs.Learning as model
 use Rattle.model.specs.Learning.{ahead, fit, bestFit, accurateRun, nextRun}
 use Rattle.record.specs.Read.{bare}
 use Rattle.record.specs.declared.Record.{Record}
-use Rattle.record.specs.Coding.{eight}
 use Rattle.learn.specs.declared.runs.Bounds.{Bounds}
 use Rattle.learn.specs.declared.runs.Intercepts.{Intercepts}
 use Rattle.learn.specs.declared.runs.Fit.{Fit}
@@ -79,10 +78,21 @@ pub record Small (b : Bounds) (w : List ℕ) : Type 0 where
   pub pages : b .first + length w ≤ 2097152
   pub end : b .last + 1 ≡ b .first + length w
 
--- the eight bytes of each run's record, one after the other
-unfoldable pub encoded : List model.Run → List ℕ
-encoded [] = []
-encoded (r ∷ rs) = eight (bare (r .learned)) ++ encoded rs
+-- a batch that ascends, on pages from page p on, and the error bound
+pub record Batch (w : List ℕ) (p g : ℕ) : Type 0 where
+  pub ascends : ascending w ≡ true
+  pub size : length w ≤ 256
+  pub pages : p + length w ≤ 2097152
+  pub bound : g ≤ 15
+
+-- what its predictions keep to
+abbrev pub boundsOf : ℕ → ℕ → List ℕ → model.Bounds
+boundsOf g p w = record { g = g; first = p; last = p + length w - 1 }
+
+-- "The learned records are handed to the table as one list": each run's record
+unfoldable pub records : List model.Run → List Record
+records [] = []
+records (r ∷ rs) = bare (r .learned) ∷ records rs
 
 -- how many pages each run takes
 unfoldable pub counts : List model.Run → List ℕ

@@ -6,9 +6,9 @@ ghost use Prim.Native.Nat.{_+_, _*_, _-_, _<_, _≤_, _%_, _/_, min, max};
 ghost use lib.ListN.{length};
 ghost use lib.IntN.{subℕ};
 ghost use Rattle.model.specs.Lists.{ascending, store};
-ghost use Rattle.model.specs.Learning.{strideLength, suiting, common, better, runs, learn};
+ghost use Rattle.model.specs.Learning.{strideLength, suiting, common, better, learn};
 ghost use Rattle.model.specs.Sound.{isEmpty};
-ghost use Rattle.learn.specs.Runs.{asBounds, asIntercepts, asFit, IsRun, pageAt, aheadOf, behind, fitAt, bestAt, accurateAt, fitRecord, runAt, Small, encoded, counts};
+ghost use Rattle.learn.specs.Runs.{asBounds, asIntercepts, asFit, IsRun, pageAt, aheadOf, behind, fitAt, bestAt, accurateAt, fitRecord, runAt, boundsOf, Small, Batch, records, counts};
 
 // What predictions keep to: within g of the page, from the flush's first page to its last.
 struct Bounds {
@@ -31,9 +31,9 @@ struct Fit {
 }
 
 // A record, and how many pages it takes.
-struct Run {
-    learned: Record,
-    taken: usize,
+pub struct Run {
+    pub learned: Record,
+    pub taken: usize,
 }
 
 // n less m.
@@ -265,43 +265,36 @@ fn next(written: &[u32], i: usize, b: Bounds) -> Run
     approximate(written, i, f)
 }
 
-// Stores the records of all runs, one after the other, and how many pages each takes.
-fn store_all(written: &[u32], b: Bounds, out: &mut [u8], taken: &mut [u32]) -> usize
-    requires { ⌜ Small b (now written) × (8 * length (now written) ≤ length (now out)) × (length (now written) ≤ length (now taken)) ⌝ }
-    ensures { λ r. ⌜ r ≡ length (runs (asBounds b) (length (now (written .entry))) (b .first) (now (written .entry))) ⌝ }
-    ensures { λ _. ⌜ now (out .exit) ≡ store (now (out .entry)) 0 (encoded (runs (asBounds b) (length (now (written .entry))) (b .first) (now (written .entry)))) ⌝ }
-    ensures { λ _. ⌜ now (taken .exit) ≡ store (now (taken .entry)) 0 (counts (runs (asBounds b) (length (now (written .entry))) (b .first) (now (written .entry)))) ⌝ }
-{
-    let mut i = 0;
-    let mut n = 0;
-    while i < written.len() {
-        let r = next(written, i, b);
-        let learned = r.learned;
-        learned.encode(out, 8 * n);
-        taken[n] = r.taken as u32;
-        i += r.taken;
-        n += 1;
-    }
-    n
-}
-
-// The runs of a sorted batch that is written from page `first` on: how many, their records of eight bytes, and how many of the
-// batch's pages each takes.
-pub fn learn(written: &[u32], first: u32, g: u32, out: &mut [u8], taken: &mut [u32]) -> usize
-    requires { ⌜ (ascending (now written) ≡ true) × (length (now written) ≤ 256) × (first + length (now written) ≤ 2097152) × (g ≤ 15) ⌝ }
-    requires { ⌜ (8 * length (now written) ≤ length (now out)) × (length (now written) ≤ length (now taken)) ⌝ }
-    ensures { λ r. ⌜ r ≡ length (learn g first (now (written .entry))) ⌝ }
-    ensures { λ _. ⌜ now (out .exit) ≡ store (now (out .entry)) 0 (encoded (learn g first (now (written .entry)))) ⌝ }
-    ensures { λ _. ⌜ now (taken .exit) ≡ store (now (taken .entry)) 0 (counts (learn g first (now (written .entry)))) ⌝ }
+// The run at place i of a sorted batch that is written from page `first` on.
+pub fn run_at(written: &[u32], i: usize, first: u32, g: u32) -> Run
+    requires { ⌜ Batch (now written) first g × (i < length (now written)) ⌝ }
+    ensures { λ r. ⌜ IsRun r (runAt (boundsOf g first (now (written .entry))) (now (written .entry)) i) ⌝ }
 {
     let n = written.len() as u32;
-    if n == 0 {
-        return 0;
-    }
     let b = Bounds {
         g,
         first,
         last: first + n - 1,
     };
-    store_all(written, b, out, taken)
+    next(written, i, b)
+}
+
+// The runs of a sorted batch that is written from page `first` on: how many, their records, and how many of the batch's pages
+// each takes.
+pub fn learn(written: &[u32], first: u32, g: u32, out: &mut [Record], taken: &mut [u32]) -> usize
+    requires { ⌜ Batch (now written) first g × (length (now written) ≤ length (now out)) × (length (now written) ≤ length (now taken)) ⌝ }
+    ensures { λ r. ⌜ (r ≡ length (learn g first (now (written .entry))))
+        × (now (out .exit) ≡ store (now (out .entry)) 0 (records (learn g first (now (written .entry)))))
+        × (now (taken .exit) ≡ store (now (taken .entry)) 0 (counts (learn g first (now (written .entry))))) ⌝ }
+{
+    let mut i = 0;
+    let mut n = 0;
+    while i < written.len() {
+        let r = run_at(written, i, first, g);
+        out[n] = r.learned;
+        taken[n] = r.taken as u32;
+        i += r.taken;
+        n += 1;
+    }
+    n
 }

@@ -1,3 +1,4 @@
+pub mod Bytes
 pub mod Conditions
 pub mod Marks
 pub mod Insertion

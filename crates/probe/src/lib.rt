@@ -9,7 +9,8 @@ ghost use lib.Dec.{ltb};
 ghost use lib.ListN.{length};
 ghost use Rattle.model.specs.Lists.{all, ascending, store};
 ghost use Rattle.model.specs.Learning.{sorted, logicals, sources as sourcesOf, learn};
-ghost use Rattle.learn.specs.Runs.{encoded, counts};
+ghost use Rattle.learn.specs.Runs.{counts};
+ghost use Rattle.probe.specs.Encoded.{encoded};
 
 // A batch sorted: how many pages there are; the logical pages and the index of each one's last arrival in the two lists.
 #[no_mangle]
@@ -38,5 +39,15 @@ pub extern "C" fn probe_learn(
     ensures { λ _. ⌜ now (out .exit) ≡ store (now (out .entry)) 0 (encoded (learn g first (now (written .entry)))) ⌝ }
     ensures { λ _. ⌜ now (taken .exit) ≡ store (now (taken .entry)) 0 (counts (learn g first (now (written .entry)))) ⌝ }
 {
-    learn::runs::learn(written, first, g, out, taken) as u64
+    let mut i = 0;
+    let mut n = 0;
+    while i < written.len() {
+        let r = learn::runs::run_at(written, i, first, g);
+        let learned = r.learned;
+        learned.encode(out, 8 * n);
+        taken[n] = r.taken as u32;
+        i += r.taken;
+        n += 1;
+    }
+    n as u64
 }
