@@ -160,10 +160,10 @@ pub fn check_compaction(subject: &impl Subject) {
 }
 
 /// Steps of all kinds, one after the other: after each, the bytes encode the
-/// model's group. More than 10,000 steps a run.
+/// model's group. More than 100,000 steps a run.
 pub fn check_steps(subject: &impl Subject) {
     let mut steps = 0;
-    rounds(500, &mut steps, |random, log, steps| {
+    rounds(4500, &mut steps, |random, log, steps| {
         let mut pair = any_pair(subject, random, log);
         let learns = random.once_in(2);
         for _ in 0..20 {
@@ -181,7 +181,8 @@ pub fn check_steps(subject: &impl Subject) {
         assert!(group_is_sound(&whole_device(), 0, &pair.group));
         assert!(subject.is_sound(&pair.bytes, 256, 0));
     });
-    assert!(steps >= 10_000, "{steps} steps");
+    println!("{steps} steps");
+    assert!(steps >= 100_000);
 }
 
 /// Some of the records learned from a batch of one group.
