@@ -28,6 +28,21 @@ pub unless-accepts : (checks : List Check) (x : Lent) (out : Outcome) → firstR
 unfolding unless outcome
 unless-accepts checks x out e = rw e refl
 
+-- Where one applies, its refusal is the answer.
+pub unless-refuses : (checks : List Check) (x : Lent) (out : Outcome) (r : Refusal) → firstRefusal checks ≡ some r → unless checks x out .answer ≡ refused r
+unfolding unless outcome
+unless-refuses checks x out r e = rw e refl
+
+-- Two calls that refuse alike and answer alike, answer alike.
+pub unless-alike : (checks checks′ : List Check) (x x′ : Lent) (out out′ : Outcome) → firstRefusal checks ≡ firstRefusal checks′ → out .answer ≡ out′ .answer
+    → unless checks x out .answer ≡ unless checks′ x′ out′ .answer
+unfolding unless outcome
+unless-alike checks checks′ x x′ out out′ e q = rw e (go (firstRefusal checks′))
+  where
+    go : (o : Option Refusal) → outcome o x out .answer ≡ outcome o x′ out′ .answer
+    go none = q
+    go (some r) = refl
+
 -- Where nothing is refused, the first check doesn't apply and the others refuse nothing.
 pub clears : (c : Check) (cs : List Check) → firstRefusal (c ∷ cs) ≡ none → (c .applies ≡ false) × (firstRefusal cs ≡ none)
 unfolding firstRefusal orElse
@@ -37,10 +52,15 @@ clears c cs e = go (c .applies) refl
     go true q = let z : _≡_ {A = ℕ} 0 1 = (let y : orElse true (c .refusal) (firstRefusal cs) ≡ none = rw q at e in cc) in absurd (omega arith)
     go false q = (q, rw q at e)
 
--- Where a check doesn't apply and the others refuse nothing, nothing is refused.
-pub passes : (c : Check) (cs : List Check) → c .applies ≡ false → firstRefusal cs ≡ none → firstRefusal (c ∷ cs) ≡ none
+-- Where a check doesn't apply, the others decide.
+pub passes : {o : Option Refusal} (c : Check) (cs : List Check) → c .applies ≡ false → firstRefusal cs ≡ o → firstRefusal (c ∷ cs) ≡ o
 unfolding firstRefusal orElse
 passes c cs q e = rw q e
+
+-- Where it applies, it decides.
+pub stops : (c : Check) (cs : List Check) → c .applies ≡ true → firstRefusal (c ∷ cs) ≡ some (c .refusal)
+unfolding firstRefusal orElse
+stops c cs q = rw q refl
 
 pub no-checks : firstRefusal [] ≡ none
 unfolding firstRefusal

@@ -2,26 +2,27 @@
 -- wanted a free block is accepted then. Lookups, compactions and refused calls change no count. Assumes nothing.
 use mathlib.Core.Path.{_≡_, refl, sym, _∙_, ap, subst}
 use mathlib.Core.List.{List, [], _∷_}
-use mathlib.Core.Option.{none, some}
+use mathlib.Core.Option.{Option, none, some}
+use mathlib.Core.Logic.{_⊎_, inl, inr}
 use mathlib.Core.Bool.{true≢false, Bool, true, false, not, _&&_, _||_}
 use Prim.Native.Nat.{ℕ, _≤_, _<_}
 use native.Mathlib.Omega.{arith}
 use lib.Dec.{ltb}
 use lib.ListN.{length}
-use borrow.Author.Tests.{ltb-true, le-ltb, not-false}
-use Rattle.model.specs.Lists.{all, orElse}
-use Rattle.model.specs.Device.{Device}
+use borrow.Author.Tests.{ltb-true, ltb-false, le-ltb, not-false}
+use Rattle.model.specs.Lists.{orElse}
 use Rattle.model.specs.State.{State, freeBlocks, withGroups}
 use Rattle.model.specs.Sound.{isEmpty}
-use Rattle.calls.specs.Refusals.{Refusal, noFreeBlock, refusalNumber, Check, firstRefusal, wrongState, wrongSpare}
-use Rattle.calls.specs.Outcome.{Lent, number, accepted, Outcome, unless}
+use Rattle.calls.specs.Refusals.{Refusal, noFreeBlock, refusalNumber, Check, _when_, firstRefusal, wrongState, wrongSpare}
+use Rattle.calls.specs.Outcome.{Lent, Answer, refused, number, accepted, Outcome, unless}
 use Rattle.calls.specs.Format.{format, formatChecks, formatDone}
 use Rattle.calls.specs.Flush.{flush, flushChecks, flushDone}
 use Rattle.calls.specs.Lookup.{lookup, lookupChecks, seek, answerOf}
 use Rattle.calls.specs.Collection.{moves, collect, collectChecks, collectDone}
 use Rattle.calls.specs.Compaction.{compaction, compactChecks, compactDone, compactGroup}
-use Rattle.calls.specs.History.{Call, formatCall, flushCall, lookupCall, collectCall, compactCall, agreeCall, lend, run, Past, pastAfter, step, steps}
-use Rattle.calls.proofs.Decided.{Decided, refuses, accepts, decided, passes, no-checks, unless-accepts}
+use Rattle.calls.specs.History.{Call, formatCall, flushCall, lookupCall, collectCall, compactCall, agreeCall, lend, run, Past, pastAfter, step}
+use Rattle.calls.specs.Demand3.{Fits, Between, aLookup, aCompaction, anAgreement, aRefusal}
+use Rattle.calls.proofs.Decided.{Decided, refuses, accepts, decided, passes, stops, no-checks, unless-accepts, unless-refuses}
 use Rattle.calls.proofs.Invariant.{Inv}
 use Rattle.calls.proofs.Gain.{gain}
 use Rattle.calls.proofs.Erasing.{collect-free, collect-device}
@@ -29,12 +30,16 @@ use Rattle.calls.proofs.Collecting.{collect-passed}
 use Rattle.calls.proofs.Holding.{Holds, or-l, or-r, right-length}
 use Rattle.calls.proofs.Passing.{numbers-there, state-right, spare-right, is-sound, length-right, neither}
 
--- What a flush needs beside a free block: its batch and its plan fit the device.
-pub record Fitting (d : Device) (batch plan : List ℕ) : Type 0 where
-  pub filled : isEmpty batch ≡ false
-  pub fits : ltb (d .B) (length batch) ≡ false
-  pub logical : all (λ y. ltb y (d .N)) batch ≡ true
-  pub planned : length plan ≡ d .B
+-- a list with an element is not empty, and the other way round
+pub some-left : (l : List ℕ) → 1 ≤ length l → isEmpty l ≡ false
+unfolding isEmpty
+some-left [] h = absurd (omega arith)
+some-left (x ∷ l) h = refl
+
+some-there : (l : List ℕ) → isEmpty l ≡ false → 1 ≤ length l
+unfolding isEmpty
+some-there [] e = absurd (true≢false e)
+some-there (x ∷ l) e = omega arith
 
 -- A refusal of another number than the first check's: that check doesn't apply, and the others refuse so.
 skips : (c : Check) (cs : List Check) (r : Refusal) → (refusalNumber (c .refusal) ≡ refusalNumber r → ⊥) → firstRefusal (c ∷ cs) ≡ some r → (c .applies ≡ false) × (firstRefusal cs ≡ some r)
@@ -61,7 +66,7 @@ last c r e = go (c .applies) refl
         absurd (omega arith)
 
 -- A flush refused for want of a free block: its batch and plan fit, and fewer than two blocks are free.
-pub wanting : (batch : List ℕ) (x : Lent) → firstRefusal (flushChecks batch x) ≡ some noFreeBlock → Fitting (x .state .device) batch (x .plan) × (length (freeBlocks 0 (x .state .counts)) < 2)
+pub wanting : (batch : List ℕ) (x : Lent) → firstRefusal (flushChecks batch x) ≡ some noFreeBlock → Fits (x .state .device) batch (x .plan) × (length (freeBlocks 0 (x .state .counts)) < 2)
 unfolding flushChecks refusalNumber
 wanting batch x e =
     let one = skips _ _ noFreeBlock (λ q. absurd (omega arith)) e in
@@ -71,43 +76,54 @@ wanting batch x e =
     let five = skips _ _ noFreeBlock (λ q. absurd (omega arith)) (four .1) in
     let six = last _ noFreeBlock (five .1) in (
       record {
-        filled = or-l (isEmpty batch) _ (four .0);
-        fits = or-r (isEmpty batch) _ (four .0);
+        filled = some-there batch (or-l (isEmpty batch) _ (four .0));
+        short = ltb-false (x .state .device .B) (length batch) (or-r (isEmpty batch) _ (four .0));
         logical = not-false _ (five .0);
         planned = right-length (x .plan) (x .state .device .B) (or-r (wrongState (x .state) || wrongSpare (x .state) (x .spare)) _ (two .0));
       },
       ltb-true (length (freeBlocks 0 (x .state .counts))) 2 six,
     )
 
-flush-passes : (h : Past) → Holds h → (batch plan : List ℕ) → Fitting (h .state .device) batch plan → 2 ≤ length (freeBlocks 0 (h .state .counts)) → firstRefusal (flushChecks batch (lend (h .state) (h .spare) plan [])) ≡ none
+-- While all holds, a flush whose batch and plan fit is refused for nothing but a free block.
+flush-decides : (h : Past) → Holds h → (batch plan : List ℕ) → Fits (h .state .device) batch plan → (o : Option Refusal)
+    → firstRefusal (noFreeBlock when ltb (length (freeBlocks 0 (h .state .counts))) 2 ∷ []) ≡ o → firstRefusal (flushChecks batch (lend (h .state) (h .spare) plan [])) ≡ o
 unfolding flushChecks lend
-flush-passes h v batch plan f n =
+flush-decides h v batch plan f o n =
     let s : State = h .state in
     let i : Inv s (h .spare) (v .image) (v .place) = v .inv in
     passes _ _ (numbers-there s (h .spare) (v .image) (v .place) i)
     (passes _ _ (neither _ _ (neither _ _ (state-right s (h .spare) (v .image) (v .place) i) (spare-right s (h .spare) (v .image) (v .place) i)) (length-right plan (s .device .B) (f .planned)))
     (passes _ _ (is-sound s (h .spare) (v .image) (v .place) i)
-    (passes _ _ (neither _ _ (f .filled) (f .fits))
-    (passes _ _ (ap not (f .logical)) (passes _ _ (le-ltb (length (freeBlocks 0 (s .counts))) 2 n) no-checks)))))
+    (passes _ _ (neither _ _ (some-left batch (f .filled)) (le-ltb (s .device .B) (length batch) (f .short)))
+    (passes _ _ (ap not (f .logical)) n))))
 
 accepted-flush : (x : Lent) (batch : List ℕ) → accepted (flushDone batch x .answer) ≡ true
 unfolding flushDone accepted number
 accepted-flush x batch = refl
 
 -- While all holds, a flush whose batch and plan fit is accepted where two blocks are free.
-pub flush-accepted : (h : Past) → Holds h → (batch plan : List ℕ) → Fitting (h .state .device) batch plan → 2 ≤ length (freeBlocks 0 (h .state .counts)) → accepted (run (flushCall batch plan) (h .state) (h .spare) .answer) ≡ true
+pub flush-accepted : (h : Past) → Holds h → (batch plan : List ℕ) → Fits (h .state .device) batch plan → 2 ≤ length (freeBlocks 0 (h .state .counts)) → accepted (run (flushCall batch plan) (h .state) (h .spare) .answer) ≡ true
 unfolding run flush
 flush-accepted h v batch plan f n =
-    ap (λ (o : Outcome). accepted (o .answer)) (unless-accepts (flushChecks batch x) x (flushDone batch x) (flush-passes h v batch plan f n)) ∙ accepted-flush x batch
+    ap (λ (o : Outcome). accepted (o .answer)) (unless-accepts (flushChecks batch x) x (flushDone batch x) (flush-decides h v batch plan f none (passes _ _ (le-ltb (length (freeBlocks 0 (h .state .counts))) 2 n) no-checks))) ∙ accepted-flush x batch
   where
     x : Lent
     x = lend (h .state) (h .spare) plan []
 
--- a list with an element is not empty
-pub some-left : (l : List ℕ) → 1 ≤ length l → isEmpty l ≡ false
-unfolding isEmpty
-some-left [] h = absurd (omega arith)
-some-left (x ∷ l) h = refl
+-- While all holds, a flush whose batch and plan fit is accepted, or refused for want of a free block where fewer than two are free.
+pub flush-answers : (h : Past) → Holds h → (batch plan : List ℕ) → Fits (h .state .device) batch plan
+    → (accepted (run (flushCall batch plan) (h .state) (h .spare) .answer) ≡ true)
+    ⊎ ((run (flushCall batch plan) (h .state) (h .spare) .answer ≡ refused noFreeBlock) × (length (freeBlocks 0 (h .state .counts)) < 2))
+unfolding run flush
+flush-answers h v batch plan f = go (ltb (length (freeBlocks 0 (h .state .counts))) 2) refl
+  where
+    x : Lent
+    x = lend (h .state) (h .spare) plan []
+
+    go : (t : Bool) → ltb (length (freeBlocks 0 (h .state .counts))) 2 ≡ t → (accepted (unless (flushChecks batch x) x (flushDone batch x) .answer) ≡ true)
+        ⊎ ((unless (flushChecks batch x) x (flushDone batch x) .answer ≡ refused noFreeBlock) × (length (freeBlocks 0 (h .state .counts)) < 2))
+    go true e = inr (unless-refuses (flushChecks batch x) x (flushDone batch x) noFreeBlock (flush-decides h v batch plan f (some noFreeBlock) (stops _ _ e)), ltb-true (length (freeBlocks 0 (h .state .counts))) 2 e)
+    go false e = inl (flush-accepted h v batch plan f (ltb-false (length (freeBlocks 0 (h .state .counts))) 2 e))
 
 pub and-false : (t : Bool) → (t && false) ≡ false
 and-false true = refl
@@ -152,18 +168,6 @@ collect-accepted h v plan erased p e n =
       subst (λ (o : Outcome). 2 ≤ length (freeBlocks 0 (o .after .state .counts))) (sym u) (collected-free h v plan erased q),
       ap (λ (o : Outcome). o .after .state .device) u ∙ collected-device h plan erased,
     )
-
--- Calls that may come between: lookups, compactions, refused calls; and agreements, which write nothing.
-pub data Idle (h : Past) : Call → Type 0 where
-  aLookup : (x : ℕ) → Idle h (lookupCall x)
-  aCompaction : (k : ℕ) → Idle h (compactCall k)
-  anAgreement : (a : State) (sa : List ℕ) (b : State) (sb : List ℕ) → Idle h (agreeCall a sa b sb)
-  aRefused : (c : Call) → accepted (run c (h .state) (h .spare) .answer) ≡ false → Idle h c
-
--- a list of such calls
-pub data Idles : Past → List Call → Type 0 where
-  nothing : {h : Past} → Idles h []
-  one-more : {h : Past} {c : Call} {cs : List Call} → Idle h c → Idles (step c h) cs → Idles h (c ∷ cs)
 
 -- the counts and the device are as they were
 pub record Same (h h′ : Past) : Type 0 where
@@ -214,18 +218,11 @@ refused-state (collectCall plan erased) h r = refused-leaves (collectChecks (len
 refused-state (compactCall k) h r = refused-leaves (compactChecks k (lend (h .state) (h .spare) [] [])) _ _ refl r
 refused-state (agreeCall a sa b sb) h r = refl
 
--- such a call changes no count
-idle-same : (h : Past) (c : Call) → Idle h c → Same h (step c h)
-idle-same h c (aLookup x) = record { counts = ap (λ (s : State). s .counts) (lookup-state x h); device = ap (λ (s : State). s .device) (lookup-state x h) }
-idle-same h c (aCompaction k) = compact-same k h
-idle-same h c (anAgreement a sa b sb) = agree-same a sa b sb h
-idle-same h c (aRefused _ r) = record { counts = ap (λ (s : State). s .counts) (refused-state c h r); device = ap (λ (s : State). s .device) (refused-state c h r) }
-
--- Nor does a list of such calls.
-pub idles-same : (h : Past) (cs : List Call) → Idles h cs → Same h (steps cs h)
-unfolding steps
-idles-same h [] nothing = record { counts = refl; device = refl }
-idles-same h (c ∷ cs) (one-more i j) =
-    let a = idle-same h c i in
-    let b = idles-same (step c h) cs j in
-    record { counts = b .counts ∙ a .counts; device = b .device ∙ a .device }
+-- A call that may come between changes no count.
+pub between-same : (h : Past) (c : Call) (a : Answer) → a ≡ run c (h .state) (h .spare) .answer → Between c a → Same h (step c h)
+between-same h c a e (aLookup x _) = record { counts = ap (λ (s : State). s .counts) (lookup-state x h); device = ap (λ (s : State). s .device) (lookup-state x h) }
+between-same h c a e (aCompaction k _) = compact-same k h
+between-same h c a e (anAgreement s spare s′ spare′ _) = agree-same s spare s′ spare′ h
+between-same h c a e (aRefusal _ _ r) =
+    let q : step c h .state ≡ h .state = refused-state c h (sym (ap accepted e) ∙ r) in
+    record { counts = ap (λ (s : State). s .counts) q; device = ap (λ (s : State). s .device) q }

@@ -15,5 +15,7 @@ pub mod Collecting
 pub mod Stepping
 pub mod Passing
 pub mod Helping
+pub mod Agreeing
+pub mod PredictedPage
 pub mod Never
 pub mod Demand3

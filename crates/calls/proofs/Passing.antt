@@ -3,22 +3,21 @@
 use mathlib.Core.Path.{_≡_, refl, sym, _∙_, ap, subst}
 use mathlib.Core.List.{List, []}
 use mathlib.Core.Option.{Option, none, some}
-use mathlib.Core.Logic.{_≢_}
 use mathlib.Core.Bool.{Bool, true, false, not, _||_}
 use Prim.Native.Nat.{ℕ, _+_, _<_}
 use native.Mathlib.Omega.{arith}
 use lib.ListN.{length}
-use borrow.Author.Tests.{eq-eqb, ne-eqb, lt-leb, le-ltb}
+use borrow.Author.Tests.{eq-eqb, lt-leb, le-ltb}
 use Rattle.model.specs.Device.{headLength, stateLength, spareLength, firstPage, groupOf}
 use Rattle.model.specs.State.{State, groupAt}
 use Rattle.model.specs.Sound.{soundState, soundGroup}
 use Rattle.model.proofs.Bools.{and-l}
 use Rattle.model.proofs.SoundGroups.{group-sound}
 use Rattle.calls.specs.Refusals.{firstRefusal, wrongLength, numbersMissing, wrongState, wrongSpare}
-use Rattle.calls.specs.Outcome.{Lent, Answer, found, notWritten, Outcome}
-use Rattle.calls.specs.Lookup.{lookup, lookupChecks, seek, answerOf, reads}
-use Rattle.calls.specs.Book.{Arrival, Book}
+use Rattle.calls.specs.Outcome.{Lent, Answer, Outcome}
+use Rattle.calls.specs.Lookup.{lookup, lookupChecks, seek, answerOf}
 use Rattle.calls.specs.History.{lookupCall, lend, run, Past}
+use Rattle.calls.specs.Demand3.{Right, unwritten, written}
 use Rattle.calls.proofs.Decided.{passes, no-checks, unless-accepts}
 use Rattle.calls.proofs.Invariant.{Inv}
 use Rattle.calls.proofs.Found.{seek-found, seek-nowhere}
@@ -61,25 +60,6 @@ module _ (s : State) (spare : List ℕ) (image : ℕ → List ℕ) (place : ℕ 
       (passes _ _ (neither (wrongState s) (wrongSpare s spare) state-right spare-right)
       (passes _ _ (lt-leb (s .device .N) x h) (passes _ _ (group-is-sound (groupOf x)) no-checks)))
 
--- A lookup's answer for x is right by the book.
-pub data Right (b : Book) (x : ℕ) : Answer → Type 0 where
-  -- "or says 'not written', this exactly when there was no write since the last accepted format"
-  unwritten : (levels : ℕ) → b .last x ≡ none → Right b x (notWritten levels)
-  -- "finds the page that carries the last write to it, with one flash read where the prediction is right and two where it
-  -- isn't": "its prediction is right where the predicted page carries the last write"
-  written : (page predicted levels : ℕ) (w : Arrival) → b .last x ≡ some w → b .carried page ≡ some w
-      → (b .carried predicted ≡ some w → (predicted ≡ page) × (reads page predicted ≡ 1))
-      → ((b .carried predicted ≡ some w → ⊥) → (predicted ≢ page) × (reads page predicted ≡ 2))
-      → Right b x (found page predicted levels)
-
-reads-one : (p q : ℕ) → p ≡ q → reads p q ≡ 1
-unfolding reads
-reads-one p q e = rw (eq-eqb p q e, reads) refl
-
-reads-two : (p q : ℕ) → (p ≡ q → ⊥) → reads p q ≡ 2
-unfolding reads
-reads-two p q n = rw (ne-eqb p q n, reads) refl
-
 -- While all holds, a lookup of a logical page is accepted and right.
 pub lookup-right : (h : Past) → Holds h → (x : ℕ) → x < h .book .device .N → Right (h .book) x (run (lookupCall x) (h .state) (h .spare) .answer)
 unfolding run lookup answerOf lend
@@ -103,6 +83,4 @@ lookup-right h v x b =
         let c = v .kept .present x p below e in
         let q : ℕ = firstPage (h .state .device) (lies .block) + lies .near in
         subst (λ (r : Answer). Right (h .book) x r) (sym (ap answerOf (a .sought)))
-        (written p q (a .levels) (c .0) (c .1) (c .2)
-        (λ f. let g : q ≡ p = v .kept .once q p (c .0) f (c .2) in (g, reads-one p q (sym g)))
-        (λ n. (λ g. n (ap (h .book .carried) g ∙ c .2), reads-two p q (λ g. n (ap (h .book .carried) (sym g) ∙ c .2)))))
+        (written p q (a .levels) (c .0) (c .1) (c .2) (λ f. v .kept .once q p (c .0) f (c .2)) (λ g. ap (h .book .carried) g ∙ c .2))

@@ -1,7 +1,6 @@
--- Every call keeps what holds: lookup, compaction, agreement, collection; and with format and flush every list of calls.
--- Assumes nothing.
+-- Every call keeps what holds: lookup, compaction, agreement, collection; with format and flush. Assumes nothing.
 use mathlib.Core.Path.{_≡_, refl, sym, ap, subst}
-use mathlib.Core.List.{List, [], _∷_}
+use mathlib.Core.List.{List, []}
 use mathlib.Core.Bool.{Bool, true, false}
 use Prim.Native.Nat.{ℕ}
 use Rattle.model.specs.Device.{Device}
@@ -12,7 +11,7 @@ use Rattle.calls.specs.Compaction.{compaction, compactChecks, compactDon
 use Rattle.calls.specs.Format.{format, formatChecks, formatDone}
 use Rattle.calls.specs.Agreement.{agree}
 use Rattle.calls.specs.Book.{Entry, noEntry, enter}
-use Rattle.calls.specs.History.{Call, formatCall, flushCall, lookupCall, collectCall, compactCall, agreeCall, lend, run, acceptedEntry, entryOf, Past, pastAfter, step, steps}
+use Rattle.calls.specs.History.{Call, formatCall, flushCall, lookupCall, collectCall, compactCall, agreeCall, lend, run, acceptedEntry, entryOf, Past, pastAfter, step}
 use Rattle.calls.proofs.Decided.{Decided, refuses, accepts, decided}
 use Rattle.calls.proofs.Keeping.{compact-inv}
 use Rattle.calls.proofs.Holding.{Holds, idle-kept, refused-holds, format-holds, flush-holds}
@@ -92,9 +91,3 @@ step-holds (lookupCall x) h v = lookup-holds x h v
 step-holds (collectCall plan erased) h v = collect-holds plan erased h v
 step-holds (compactCall k) h v = compact-holds k h v
 step-holds (agreeCall a sa b sb) h v = agree-holds a sa b sb h v
-
--- Every list of calls keeps all.
-pub steps-hold : (cs : List Call) (h : Past) → Holds h → Holds (steps cs h)
-unfolding steps
-steps-hold [] h v = v
-steps-hold (c ∷ cs) h v = steps-hold cs (step c h) (step-holds c h v)

@@ -8,3 +8,4 @@ pub mod Compaction
 pub mod Agreement
 pub mod Book
 pub mod History
+pub mod Demand3

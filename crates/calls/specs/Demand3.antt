@@ -1,0 +1,150 @@
+-- Demand 3, whole: one claim about every list of calls, made of any machine that runs them. There are two: the definitions
+-- themselves (`definitions`, below), and the functions on lent bytes by their contracts (crates/history). Assumes nothing.
+use mathlib.Core.Path.{_≡_}
+use mathlib.Core.List.{List}
+use mathlib.Core.Option.{none, some}
+use mathlib.Core.Logic.{_≢_, _⊎_}
+use mathlib.Core.Bool.{Bool, true, false}
+use Prim.Native.Nat.{ℕ, _≤_, _<_}
+use lib.Dec.{ltb}
+use lib.IntN.{pos}
+use lib.ListN.{length}
+use Rattle.model.specs.Lists.{all}
+use Rattle.model.specs.Device.{Device, groupOf, offsetOf, entriesPerPage}
+use Rattle.model.specs.Record.{Record, predict}
+use Rattle.model.specs.Spare.{entry}
+use Rattle.model.specs.Levels.{listing, holder}
+use Rattle.model.specs.State.{State, freeBlocks, groupAt}
+use Rattle.calls.specs.Refusals.{notSound, notNamed, noFreeBlock}
+use Rattle.calls.specs.Outcome.{Answer, found, notWritten, refused, accepted}
+use Rattle.calls.specs.Book.{Arrival, Book}
+use Rattle.calls.specs.History.{Call, formatCall, flushCall, lookupCall, collectCall, compactCall, agreeCall, run, Past, step}
+
+-- A machine: its situations, each with the state and the spare area as they are read and the book so far; and what it does: a call
+-- made in a situation gives an answer and leads to the next situation. So "each call gets the state and the spare area as the last
+-- one left them, nobody else changes the two meanwhile".
+pub record Machine : Type 1 where
+  pub Situation : Type 0
+  pub past : Situation → Past
+  pub Makes : Situation → Call → Answer → Situation → Type 0
+
+-- What a call of the definitions does.
+pub record Defined (h : Past) (c : Call) (a : Answer) (h′ : Past) : Type 0 where
+  pub answered : a ≡ run c (h .state) (h .spare) .answer
+  pub left : h′ ≡ step c h
+
+-- The definitions as a machine.
+abbrev pub definitions : Machine
+definitions = record { Situation = Past; past = λ h. h; Makes = Defined }
+
+-- A lookup's answer for x is right by the book.
+pub data Right (b : Book) (x : ℕ) : Answer → Type 0 where
+  -- "or says 'not written', this exactly when there was no write since the last accepted format"
+  unwritten : (levels : ℕ) → b .last x ≡ none → Right b x (notWritten levels)
+  -- "finds the page that carries the last write to it, with one flash read where the prediction is right and two where it
+  -- isn't": "its prediction is right where the predicted page carries the last write", which is exactly where it is the answered
+  -- page, so that `reads` counts one there and two elsewhere
+  written : (page predicted levels : ℕ) (w : Arrival) → b .last x ≡ some w → b .carried page ≡ some w
+      → (b .carried predicted ≡ some w → predicted ≡ page) → (predicted ≡ page → b .carried predicted ≡ some w)
+      → Right b x (found page predicted levels)
+
+-- A flush that fits the device: 1 to B logical pages below N, and a plan of B entries.
+pub record Fits (d : Device) (batch plan : List ℕ) : Type 0 where
+  pub filled : 1 ≤ length batch
+  pub short : length batch ≤ d .B
+  pub logical : all (λ y. ltb y (d .N)) batch ≡ true
+  pub planned : length plan ≡ d .B
+
+-- "lookups, compactions and refused calls"; and agreements, which write nothing
+pub data Between : Call → Answer → Type 0 where
+  aLookup : (x : ℕ) (a : Answer) → Between (lookupCall x) a
+  aCompaction : (k : ℕ) (a : Answer) → Between (compactCall k) a
+  anAgreement : (s : State) (spare : List ℕ) (s′ : State) (spare′ : List ℕ) (a : Answer) → Between (agreeCall s spare s′ spare′) a
+  aRefusal : (c : Call) (a : Answer) → accepted a ≡ false → Between c a
+
+-- a call on the device: any but an agreement, which is of two other states
+unfoldable pub onDevice : Call → Bool
+onDevice (formatCall d) = true
+onDevice (flushCall batch plan) = true
+onDevice (lookupCall x) = true
+onDevice (collectCall plan erased) = true
+onDevice (compactCall k) = true
+onDevice (agreeCall s spare s′ spare′) = false
+
+module _ (m : Machine) where
+  -- the machine does what the definitions say
+  abbrev pub Follows : Type 0
+  Follows = (h : m .Situation) (c : Call) (a : Answer) (h′ : m .Situation) → m .Makes h c a h′ → Defined (m .past h) c a (m .past h′)
+
+  -- a list of calls, "refused ones included", leads from one situation to another
+  pub data Leads : m .Situation → m .Situation → Type 0 where
+    nothing : (h : m .Situation) → Leads h h
+    then : (h : m .Situation) (c : Call) (a : Answer) (h₁ h₂ : m .Situation) → m .Makes h c a h₁ → Leads h₁ h₂ → Leads h h₂
+
+  -- and so does a list of calls that may come between a refused flush, the collection and the repeated flush
+  pub data Waits : m .Situation → m .Situation → Type 0 where
+    nothing : (h : m .Situation) → Waits h h
+    then : (h : m .Situation) (c : Call) (a : Answer) (h₁ h₂ : m .Situation) → Between c a → m .Makes h c a h₁ → Waits h₁ h₂ → Waits h h₂
+
+  -- "For every list of these calls (format, flush, lookup, collection, compaction), refused ones included, that starts with an
+  -- accepted format, whatever its buffers held before": h is a situation that such a list leads to
+  pub record FromFormat (h : m .Situation) : Type 0 where
+    pub start : m .Situation
+    pub device : Device
+    pub answer : Answer
+    pub formatted : m .Situation
+    pub makes : m .Makes start (formatCall device) answer formatted
+    pub accepts : accepted answer ≡ true
+    pub calls : Leads formatted h
+
+  -- What a refused flush of this batch is helped by, from the situation that it left.
+  pub record Helped (d : Device) (batch : List ℕ) (h : m .Situation) : Type 0 where
+    -- "The one collection .. is itself accepted if its plan and erased list have the right lengths"
+    pub collection : (h₁ : m .Situation) → Waits h h₁ → (plan erased : List ℕ) → length plan ≡ d .B → length erased ≡ d .M
+        → (a : Answer) (h₂ : m .Situation) → m .Makes h₁ (collectCall plan erased) a h₂ → accepted a ≡ true
+    -- "is accepted after one collection, whatever lookups, compactions and refused calls come between"
+    pub again : (h₁ : m .Situation) → Waits h h₁ → (plan erased : List ℕ) → length plan ≡ d .B → length erased ≡ d .M
+        → (a : Answer) (h₂ : m .Situation) → m .Makes h₁ (collectCall plan erased) a h₂
+        → (h₃ : m .Situation) → Waits h₂ h₃ → (plan′ : List ℕ) → length plan′ ≡ d .B
+        → (a′ : Answer) (h₄ : m .Situation) → m .Makes h₃ (flushCall batch plan′) a′ h₄ → accepted a′ ≡ true
+
+  -- The claim after such a list.
+  pub record Demanded (h : m .Situation) : Type 0 where
+    -- "and for every logical page: after the list a lookup finds the page that carries the last write to it, .. or says 'not
+    -- written'"; "lookup of every logical page below N is accepted"
+    pub lookups : (x : ℕ) → x < m .past h .book .device .N
+        → (a : Answer) (h′ : m .Situation) → m .Makes h (lookupCall x) a h′ → Right (m .past h .book) x a
+    -- "the page that carries the last write": there is one
+    pub only : (x p q : ℕ) (w : Arrival) → m .past h .book .last x ≡ some w → m .past h .book .carried p ≡ some w
+        → m .past h .book .carried q ≡ some w → p ≡ q
+    -- a flush that fits is accepted; or it is refused 6, and then fewer than two blocks are free
+    pub flushes : (batch plan : List ℕ) → Fits (m .past h .book .device) batch plan
+        → (a : Answer) (h′ : m .Situation) → m .Makes h (flushCall batch plan) a h′
+        → (accepted a ≡ true) ⊎ ((a ≡ refused noFreeBlock) × (length (freeBlocks 0 (m .past h .state .counts)) < 2))
+    -- "And a flush refused for want of a free block is accepted after one collection"
+    pub helps : (batch plan : List ℕ) (h′ : m .Situation) → m .Makes h (flushCall batch plan) (refused noFreeBlock) h′
+        → Helped (m .past h .book .device) batch h′
+    -- "From a format, 3, 7 and 6 here", in a collection, "never occur."
+    pub never : (c : Call) (a : Answer) (h′ : m .Situation) → onDevice c ≡ true → m .Makes h c a h′
+        → (a ≢ refused notSound) × (a ≢ refused notNamed)
+    pub room : (plan erased : List ℕ) (a : Answer) (h′ : m .Situation) → m .Makes h (collectCall plan erased) a h′ → a ≢ refused noFreeBlock
+    -- nor is an agreement of this state with another that came from a format refused, wherever it is made
+    pub agreements : (g : m .Situation) → FromFormat g → (i : m .Situation) (a : Answer) (i′ : m .Situation)
+        → m .Makes i (agreeCall (m .past h .state) (m .past h .spare) (m .past g .state) (m .past g .spare)) a i′ → accepted a ≡ true
+
+  -- Demand 3.
+  abbrev pub Demand3 : Type 0
+  Demand3 = (h : m .Situation) → FromFormat h → Demanded h
+
+-- the page that the first record having x's offset as a member predicts for it
+pub record Predicted (s : State) (x p : ℕ) : Type 0 where
+  pub holding : Record
+  pub holds : holder (offsetOf x) (listing (groupAt s (groupOf x))) ≡ some holding
+  pub predicts : predict holding (offsetOf x) ≡ pos p
+
+-- "no other page's entries may decide the answer", on states of any content: two spare areas of one length that have the same
+-- entries at the predicted page give the same lookup
+abbrev pub NoOtherPage : Type 0
+NoOtherPage = (s : State) (spare spare′ : List ℕ) (x : ℕ) → length spare ≡ length spare′
+    → ((p j : ℕ) → Predicted s x p → j < entriesPerPage (s .device) → entry (s .device) spare p j ≡ entry (s .device) spare′ p j)
+    → run (lookupCall x) s spare .answer ≡ run (lookupCall x) s spare′ .answer
