@@ -14,11 +14,12 @@ use Rattle.model.specs.Device.{groupOf}
 use Rattle.model.specs.Record.{kindOf, member, Record, Kind, single, accurate, approximate, kind, isApproximate}
 use Rattle.model.specs.Learning.{Run, Bounds, learn}
 use Rattle.model.specs.Sound.{soundRecord, isEmpty, soundAs}
+use Rattle.model.specs.Demand2.{boundsOf}
 use Rattle.model.proofs.Bools.{and-r}
 use Rattle.model.proofs.Lists.{Asc, asc-of, At, elem-at, length-store}
 use Rattle.model.proofs.Parts.{asc-take, asc-drop}
 use Rattle.model.proofs.Runs.{Part, Parted}
-use Rattle.model.proofs.Learned.{boundsOf, learn-parted, learn-length, learn-sound, part-members}
+use Rattle.model.proofs.Learned.{learn-parted, learn-length, learn-sound, part-members}
 use Rattle.model.proofs.SoundRecord.{record-parts, sound-ascends, owned-member}
 use Rattle.model.proofs.Order.{sound-within}
 use Rattle.record.specs.declared.Record as struct

@@ -85,10 +85,6 @@ pub record Batch (w : List ℕ) (p g : ℕ) : Type 0 where
   pub pages : p + length w ≤ 2097152
   pub bound : g ≤ 15
 
--- what its predictions keep to
-abbrev pub boundsOf : ℕ → ℕ → List ℕ → model.Bounds
-boundsOf g p w = record { g = g; first = p; last = p + length w - 1 }
-
 -- "The learned records are handed to the table as one list": each run's record
 unfoldable pub records : List model.Run → List Record
 records [] = []

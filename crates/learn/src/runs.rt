@@ -8,7 +8,8 @@ ghost use lib.IntN.{subℕ};
 ghost use Rattle.model.specs.Lists.{ascending, store};
 ghost use Rattle.model.specs.Learning.{strideLength, suiting, common, better, learn};
 ghost use Rattle.model.specs.Sound.{isEmpty};
-ghost use Rattle.learn.specs.Runs.{asBounds, asIntercepts, asFit, IsRun, pageAt, aheadOf, behind, fitAt, bestAt, accurateAt, fitRecord, runAt, boundsOf, Small, Batch, records, counts};
+ghost use Rattle.model.specs.Demand2.{boundsOf};
+ghost use Rattle.learn.specs.Runs.{asBounds, asIntercepts, asFit, IsRun, pageAt, aheadOf, behind, fitAt, bestAt, accurateAt, fitRecord, runAt, Small, Batch, records, counts};
 
 // What predictions keep to: within g of the page, from the flush's first page to its last.
 struct Bounds {

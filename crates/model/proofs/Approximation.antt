@@ -14,10 +14,11 @@ use Rattle.model.specs.Device.{ceil}
 use Rattle.model.specs.Record.{approximate, kindOf, memberAs, member, rise, predict, isApproximate}
 use Rattle.model.specs.Learning.{Bounds, Intercepts, suiting, common, Fit, longer, extend, fit, better, bestFit, approximateRecord, approximateRun}
 use Rattle.model.specs.Sound.{soundAs, ownsItsEnds}
+use Rattle.model.specs.Demand2.{Near}
 use Rattle.model.proofs.Bools.{and-i}
 use Rattle.model.proofs.Lists.{Asc, elem-here, elem-getD, of-asc, asc-top}
 use Rattle.model.proofs.Parts.{Below, take-pred, last-take, asc-take}
-use Rattle.model.proofs.Run.{Near, RunOf, kind-odd, sub-plus}
+use Rattle.model.proofs.Run.{RunOf, kind-odd, sub-plus}
 
 -- u lies from the least to the most of the intercepts
 abbrev pub Among : Intercepts → ℕ → Type 0

@@ -1,74 +1,31 @@
--- The greedy rule: a run is the longest there is; of approximate ones the smallest slope, then intercept. Assumes nothing.
+-- The greedy rule over the offsets that a run can take: no run is longer than the one that is computed; of approximate ones as long
+-- none has a smaller slope, none of its slope a smaller intercept; and which of the two is taken. Assumes nothing.
 use mathlib.Core.Path.{_≡_, refl, sym, _∙_}
 use mathlib.Core.List.{List, [], _∷_}
-use mathlib.Core.Logic.{_≢_, _⊎_, inl, inr}
+use mathlib.Core.Logic.{_⊎_, inl, inr}
 use mathlib.Core.Bool.{Bool, true, false}
-use Prim.Native.Nat.{ℕ, zero, suc, _+_, _*_, _-_, _≤_, _<_, min, max}
+use Prim.Native.Nat.{ℕ, zero, suc, _+_, _≤_, _<_, suc-le-suc}
 use native.Mathlib.Omega.{arith}
 use lib.Dec.{ltb, leb, eqb}
-use lib.ListN.{length, getD, take}
-use lib.Seq.{getD-take, length-take-le}
-use lib.IntN.{ℤ, pos, negsuc, subℕ, _+ℤ_}
-use borrow.Author.Tests.{ltb-true, ltb-false, leb-false, eqb-true, eqb-false, lt-ltb, le-ltb, ne-eqb}
-use Rattle.model.specs.Device.{ceil}
+use lib.ListN.{length, getD}
+use borrow.Author.Tests.{ltb-true, ltb-false, leb-false, eqb-true, eqb-false, eq-eqb}
 use Rattle.model.specs.Learning.{Bounds, Intercepts, Fit, Run, strideLength, accurateRun, suiting, common, longer, extend, fit, better, bestFit, approximateRun, longerRun, nextRun}
-use Rattle.model.proofs.Lists.{le-cases, elem-getD}
-use Rattle.model.proofs.Parts.{Below}
-use Rattle.model.proofs.Run.{Near}
-use Rattle.model.proofs.Stride.{stride-inside, from-two}
-use Rattle.model.proofs.Approximation.{Among, SuitsFirst, Fitting, best-fitting, rise-small, suits-near}
+use Rattle.model.proofs.Lists.{le-cases}
+use Rattle.model.proofs.Approximation.{Among, SuitsFirst}
 
--- The first n of the offsets xs go on at stride d from x, and no more of them do.
-pub record LongestStride (x d : ℕ) (xs : List ℕ) (n : ℕ) : Type 0 where
-  pub inside : n ≤ length xs
-  pub on : (i : ℕ) → i < n → getD xs i 0 ≡ x + i * d
-  pub stops : n < length xs → getD xs n 0 ≢ x + n * d
-
-stride-stops : (d x : ℕ) (l : List ℕ) → strideLength d x l < length l → getD l (strideLength d x l) 0 ≢ x + suc (strideLength d x l) * d
+-- The count of the stride stops no earlier than the stride: it has all m offsets behind x of which each is d above the one before.
+pub stride-most : (d x : ℕ) (l : List ℕ) (m : ℕ) → m ≤ length l → ((i : ℕ) → i < m → getD l i 0 ≡ getD (x ∷ l) i 0 + d)
+    → m ≤ strideLength d x l
 unfolding strideLength
-stride-stops d x [] h = absurd (omega arith)
-stride-stops d x (y ∷ l) h = go (eqb y (x + d)) refl (stride-stops d y l)
-  where
-    go : (t : Bool) → eqb y (x + d) ≡ t → (strideLength d y l < length l → getD l (strideLength d y l) 0 ≢ y + suc (strideLength d y l) * d)
-        → getD (y ∷ l) (strideLength d x (y ∷ l)) 0 ≢ x + suc (strideLength d x (y ∷ l)) * d
-    go true e ih =
-        let k : strideLength d y l < length l = omega (arith, rw (e, strideLength) at h) in
-        let q : y ≡ x + d = eqb-true y (x + d) e in
-        let n : getD l (strideLength d y l) 0 ≢ y + suc (strideLength d y l) * d = ih k in
-        rw (e, strideLength) (λ m. n (omega arith))
-    go false e ih = rw (e, strideLength) (λ m. eqb-false y (x + d) e (omega arith))
+stride-most d x l zero h f = omega arith
+stride-most d x [] (suc m) h f = absurd (omega arith)
+stride-most d x (y ∷ l) (suc m) h f =
+    rw (eq-eqb y (x + d) (f 0 (omega arith)), strideLength)
+    (suc-le-suc (stride-most d y l m (omega arith) (λ i k. f (suc i) (omega arith))))
 
--- The accurate run goes on while the stride of its first two offsets holds, and no longer.
-pub accurate-longest : (k p x y : ℕ) (l : List ℕ) → x < y → LongestStride x (y - x) (x ∷ y ∷ l) (accurateRun k p x (y ∷ l) .taken)
-unfolding accurateRun
-accurate-longest k p x y l h =
-    let n : ℕ = strideLength (y - x) y l in
-    record {
-      inside = omega (arith, stride-inside (y - x) y l);
-      on = from-two x y l h;
-      stops = λ q e. stride-stops (y - x) y l (omega arith) (omega arith);
-    }
-
--- Slope a and intercept z suit the offsets, the first of them on page p: each prediction keeps to the bounds.
-pub record Suits (b : Bounds) (a : ℕ) (z : ℤ) (p : ℕ) (offsets : List ℕ) : Type 0 where
-  pub slope : a ≤ 256
-  pub near : (i : ℕ) → i < length offsets → Near b (p + i) (z +ℤ pos (ceil (a * getD offsets i 0) 256))
-
--- the intercept z plus 256 is a natural number, no less than u
-pub record NoLess (u : ℕ) (z : ℤ) : Type 0 where
-  pub biased : ℕ
-  pub is : z +ℤ pos 256 ≡ pos biased
-  pub above : u ≤ biased
-
--- f is the best fit of the offsets xs: it suits the first of them; no slope and intercept suit more; of those that suit as
--- many none has a smaller slope, none of its slope a smaller intercept.
-pub record Best (b : Bounds) (p : ℕ) (xs : List ℕ) (f : Fit) : Type 0 where
-  pub suits : Suits b (f .slope) (subℕ (f .least) 256) p (take (f .size) xs)
-  pub longest : (a : ℕ) (z : ℤ) (n : ℕ) → n ≤ length xs → Suits b a z p (take n xs) → n ≤ f .size
-  pub smallest : (a : ℕ) (z : ℤ) → Suits b a z p (take (f .size) xs) → (f .slope < a) ⊎ ((f .slope ≡ a) × NoLess (f .least) z)
-
--- no intercept of the slopes from s to t suits more of the offsets than f, and none that suits as many is smaller
-abbrev Greatest : Bounds → ℕ → List ℕ → ℕ → ℕ → Fit → Type 0
+-- no intercept of the slopes from s to t suits more of the offsets than f; one that suits as many has a greater slope, or f's and is
+-- no smaller
+abbrev pub Greatest : Bounds → ℕ → List ℕ → ℕ → ℕ → Fit → Type 0
 Greatest b p xs s t f = (a u n : ℕ) → s ≤ a → a ≤ t → n ≤ length xs → SuitsFirst b a u p xs n
     → (n ≤ f .size) × (n ≡ f .size → (f .slope < a) ⊎ ((f .slope ≡ a) × (f .least ≤ u)))
 
@@ -159,7 +116,8 @@ fit-slope : (b : Bounds) (a p x : ℕ) (l : List ℕ) → fit b a p x l .slope �
 unfolding fit longer
 fit-slope b a p x l = extend-slope b a (suiting b a x p) (suc p) l
 
-best-greatest : (b : Bounds) (p x : ℕ) (l : List ℕ) (a n : ℕ) → Greatest b p (x ∷ l) a (a + n) (bestFit b p (x ∷ l) a n)
+-- The best fit of slopes a to a + n is the greatest.
+pub best-greatest : (b : Bounds) (p x : ℕ) (l : List ℕ) (a n : ℕ) → Greatest b p (x ∷ l) a (a + n) (bestFit b p (x ∷ l) a n)
 unfolding bestFit
 best-greatest b p x l a zero = let e : a + 0 ≡ a = omega arith in rw e (fit-greatest b p x l a)
 best-greatest b p x l a (suc n) =
@@ -167,104 +125,27 @@ best-greatest b p x l a (suc n) =
     rw e (better-greatest b p (x ∷ l) a (suc a + n) (fit b a p x l) (bestFit b p (x ∷ l) (suc a) n) (fit-slope b a p x l)
     (fit-greatest b p x l a) (best-greatest b p x l (suc a) n))
 
--- an intercept plus 256, where that is no less than nothing
-plus256 : ℤ → ℕ
-plus256 (pos n) = n + 256
-plus256 (negsuc n) = 255 - n
+-- "The longest approximate run is taken if it is longer than the accurate one, otherwise the accurate one", and that one wherever g
+-- is 0.
+pub data Chosen (b : Bounds) (acc app : Run) : Run → Type 0 where
+  accurately : (b .g ≡ 0) ⊎ (app .taken ≤ acc .taken) → Chosen b acc app acc
+  approximately : 1 ≤ b .g → acc .taken < app .taken → Chosen b acc app app
 
--- an intercept that predicts a page with a rise of at most 255 isn't below −255
-plus256-is : (z : ℤ) (c q : ℕ) → c ≤ 255 → z +ℤ pos c ≡ pos q → (z +ℤ pos 256 ≡ pos (plus256 z)) × (plus256 z + c ≡ q + 256)
-unfolding plus256
-plus256-is (pos n) c q h e = let k : n + c ≡ q = cc in (refl, omega arith)
-plus256-is (negsuc n) c q h e = go (ltb c (suc n)) refl
-  where
-    go : (t : Bool) → ltb c (suc n) ≡ t → (negsuc n +ℤ pos 256 ≡ pos (plus256 (negsuc n))) × (plus256 (negsuc n) + c ≡ q + 256)
-    go true w =
-        let k : negsuc (suc n - suc c) ≡ pos q = rw w at e in
-        let m : _≡_ {A = ℕ} 0 1 = cc in
-        absurd (omega arith)
-    go false w =
-        let k : pos (c - suc n) ≡ pos q = rw w at e in
-        let m : c - suc n ≡ q = cc in
-        let l : suc n ≤ c = ltb-false c (suc n) w in
-        let d : ltb 256 (suc n) ≡ false = le-ltb 256 (suc n) (omega arith) in
-        let v : 256 - suc n ≡ 255 - n = omega arith in
-        (rw (d, v), omega arith)
-
-near-arith : (p g first last c u q : ℕ) → u + c ≡ q + 256 → c ≤ 255 → q ≤ p + g → p ≤ q + g → first ≤ q → q ≤ last
-    → ((max (p - g) first + 256) - c ≤ u) × (u ≤ (min (p + g) last + 256) - c)
-near-arith p g first last c u q e h k m n o = omega arith
-
-near-among : (b : Bounds) (a o p : ℕ) (z : ℤ) → a ≤ 256 → o < 256 → Near b p (z +ℤ pos (ceil (a * o) 256))
-    → (z +ℤ pos 256 ≡ pos (plus256 z)) × Among (suiting b a o p) (plus256 z)
-unfolding suiting
-near-among b a o p z h k n =
-    let c : ℕ = ceil (a * o) 256 in
-    let m : c ≤ 255 = rise-small a o h k in
-    let e = plus256-is z c (n .page) m (n .is) in
-    (e .0, near-arith p (b .g) (b .first) (b .last) c (plus256 z) (n .page) (e .1) m (n .below) (n .above) (n .from) (n .to))
-
-module _ (b : Bounds) (p : ℕ) (xs : List ℕ) (s : Below 256 xs) where
-  at-first : (a : ℕ) (z : ℤ) (n : ℕ) → n ≤ length xs → Suits b a z p (take n xs) → (j : ℕ) → j < n
-      → (z +ℤ pos 256 ≡ pos (plus256 z)) × Among (suiting b a (getD xs j 0) (p + j)) (plus256 z)
-  at-first a z n h t j k =
-      near-among b a (getD xs j 0) (p + j) z (t .slope) (s _ (elem-getD xs j (omega arith)))
-      (rw (getD-take n xs j 0 k) at (t .near j (rw (length-take-le n xs h) k)))
-
-  suits-first : (a : ℕ) (z : ℤ) (n : ℕ) → n ≤ length xs → Suits b a z p (take n xs) → SuitsFirst b a (plus256 z) p xs n
-  suits-first a z n h t j k = at-first a z n h t j k .1
-
-  fit-suits : (f : Fit) → Fitting b p xs f → Suits b (f .slope) (subℕ (f .least) 256) p (take (f .size) xs)
-  fit-suits f t = record {
-    slope = t .slope;
-    near = λ i h.
-        let k : i < f .size = omega (arith, h, length-take-le (f .size) xs (t .inside)) in
-        rw (getD-take (f .size) xs i 0 k) (suits-near b (f .slope) (getD xs i 0) (p + i) (f .least) (t .slope)
-        (s _ (elem-getD xs i (omega (arith, k, t .inside)))) (t .suits i k));
-  }
-
-  best-of : (f : Fit) → Fitting b p xs f → Greatest b p xs 0 256 f → Best b p xs f
-  best-of f t m = record {
-    suits = fit-suits f t;
-    longest = λ a z n h q. m a (plus256 z) n (omega arith) (q .slope) h (suits-first a z n h q) .0;
-    smallest = λ a z q. go a z q (m a (plus256 z) (f .size) (omega arith) (q .slope) (t .inside)
-        (suits-first a z (f .size) (t .inside) q) .1 refl);
-  }
-    where
-      go : (a : ℕ) (z : ℤ) → Suits b a z p (take (f .size) xs) → (f .slope < a) ⊎ ((f .slope ≡ a) × (f .least ≤ plus256 z))
-          → (f .slope < a) ⊎ ((f .slope ≡ a) × NoLess (f .least) z)
-      go a z q (inl r) = inl r
-      go a z q (inr r) = inr (r .0, record { biased = plus256 z; is = at-first a z (f .size) (t .inside) q 0 (t .filled) .0; above = r .1 })
-
--- The approximate run is of the best fit: none is longer, and of those as long it has the smallest slope, then intercept.
-pub approximate-best : (b : Bounds) (p x : ℕ) (l : List ℕ) → Below 256 (x ∷ l) → b .first ≤ p → p ≤ b .last
-    → Best b p (x ∷ l) (bestFit b p (x ∷ l) 0 256)
-approximate-best b p x l s h k = best-of b p (x ∷ l) s (bestFit b p (x ∷ l) 0 256) (best-fitting b p x l 0 256 (omega arith) h k)
-    (best-greatest b p x l 0 256)
-
-longer-first : (acc app : Run) → app .taken ≤ acc .taken → longerRun acc app ≡ acc
+longer-chosen : (b : Bounds) (acc app : Run) → 1 ≤ b .g → Chosen b acc app (longerRun acc app)
 unfolding longerRun
-longer-first acc app h = rw (le-ltb (acc .taken) (app .taken) h, longerRun)
-
-longer-second : (acc app : Run) → acc .taken < app .taken → longerRun acc app ≡ app
-unfolding longerRun
-longer-second acc app h = rw (lt-ltb (acc .taken) (app .taken) h, longerRun)
-
--- The approximate run is taken where g is at least 1 and it is longer than the accurate one ..
-pub takes-approximate : (b : Bounds) (k p x : ℕ) (l : List ℕ) → 1 ≤ b .g → accurateRun k p x l .taken < approximateRun b k p x l .taken
-    → nextRun b k p x l ≡ approximateRun b k p x l
-unfolding nextRun
-takes-approximate b k p x l h m = rw (ne-eqb (b .g) 0 (λ e. omega arith), nextRun)
-    (longer-second (accurateRun k p x l) (approximateRun b k p x l) m)
-
--- .. and otherwise the accurate one.
-pub takes-accurate : (b : Bounds) (k p x : ℕ) (l : List ℕ) → (b .g ≡ 0) ⊎ (approximateRun b k p x l .taken ≤ accurateRun k p x l .taken)
-    → nextRun b k p x l ≡ accurateRun k p x l
-unfolding nextRun
-takes-accurate b k p x l h = go (eqb (b .g) 0) refl h
+longer-chosen b acc app h = go (ltb (acc .taken) (app .taken)) refl
   where
-    go : (t : Bool) → eqb (b .g) 0 ≡ t → (b .g ≡ 0) ⊎ (approximateRun b k p x l .taken ≤ accurateRun k p x l .taken)
-        → nextRun b k p x l ≡ accurateRun k p x l
-    go true e q = rw (e, nextRun)
-    go false e (inl q) = absurd (eqb-false (b .g) 0 e q)
-    go false e (inr q) = rw (e, nextRun) (longer-first (accurateRun k p x l) (approximateRun b k p x l) q)
+    go : (t : Bool) → ltb (acc .taken) (app .taken) ≡ t → Chosen b acc app (longerRun acc app)
+    go true e = rw (e, longerRun) (approximately h (ltb-true (acc .taken) (app .taken) e))
+    go false e = rw (e, longerRun) (accurately (inr (ltb-false (acc .taken) (app .taken) e)))
+
+-- The run at a place is so chosen.
+pub next-chosen : (b : Bounds) (k p x : ℕ) (l : List ℕ) → Chosen b (accurateRun k p x l) (approximateRun b k p x l) (nextRun b k p x l)
+unfolding nextRun
+next-chosen b k p x l = go (eqb (b .g) 0) refl
+  where
+    go : (t : Bool) → eqb (b .g) 0 ≡ t → Chosen b (accurateRun k p x l) (approximateRun b k p x l) (nextRun b k p x l)
+    go true e = rw (e, nextRun) (accurately (inl (eqb-true (b .g) 0 e)))
+    go false e =
+        let h : 1 ≤ b .g = omega (arith, eqb-false (b .g) 0 e) in
+        rw (e, nextRun) (longer-chosen b (accurateRun k p x l) (approximateRun b k p x l) h)

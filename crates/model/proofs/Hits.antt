@@ -14,13 +14,13 @@ use Rattle.model.specs.Lists.{elem, orElse}
 use Rattle.model.specs.Device.{groupOf, offsetOf}
 use Rattle.model.specs.Record.{member, predict}
 use Rattle.model.specs.Learning.{Run, Bounds, learn, recordsFor}
+use Rattle.model.specs.Demand2.{Near, boundsOf}
 use Rattle.model.proofs.Bools.{is-false}
 use Rattle.model.proofs.Lists.{Asc, At, elem-at}
 use Rattle.model.proofs.Parts.{elem-take, elem-first, elem-rest, first-only, asc-drop}
 use Rattle.model.proofs.Line.{Line, lineOf, linePredict, met, overlay}
-use Rattle.model.proofs.Run.{Near}
 use Rattle.model.proofs.Runs.{Part, Parted}
-use Rattle.model.proofs.Learned.{boundsOf, learn-parted}
+use Rattle.model.proofs.Learned.{learn-parted}
 
 -- what is met for logical page x once the runs are learned
 abbrev metIn : List Run → ℕ → Option Line → Option Line

@@ -1,47 +1,28 @@
 -- A batch's learned runs: they cut the batch into parts, in order, and their records are sound. Assumes nothing.
 use mathlib.Core.Path.{_≡_, refl, sym, _∙_, ap}
-use mathlib.Core.List.{List, [], _∷_, _++_, flatten}
+use mathlib.Core.List.{List, [], _∷_}
 use mathlib.Core.Bool.{Bool, true, false, _&&_}
 use Prim.Native.Nat.{ℕ, zero, suc, _+_, _*_, _-_, _≤_, _<_, suc-le-suc}
 use native.Mathlib.Omega.{arith}
 use native.Mathlib.Nat.{le-refl}
 use lib.Dec.{ltb, leb, eqb}
-use lib.ListN.{length, getD, take, drop, take-append-drop}
+use lib.ListN.{length, getD, take, drop}
 use borrow.Author.Tests.{eqb-true, le-leb, lt-ltb}
 use Rattle.model.specs.Lists.{all, elem}
 use Rattle.model.specs.Device.{groupOf, offsetOf}
 use Rattle.model.specs.Record.{end, member}
 use Rattle.model.specs.Learning.{Run, Bounds, runs, learn, recordsFor}
 use Rattle.model.specs.Sound.{soundRecord}
+use Rattle.model.specs.Demand2.{boundsOf}
 use Rattle.model.proofs.Bools.{and-i, all-head, all-tail, all-cons}
 use Rattle.model.proofs.Lists.{Asc, elem-getD}
 use Rattle.model.proofs.Parts.{Below, elem-rest}
 use Rattle.model.proofs.Runs.{Part, Parted, runs-parted}
 
--- What a batch of logical pages, written from page p on, is bound to.
-abbrev pub boundsOf : ℕ → ℕ → List ℕ → Bounds
-boundsOf g p written = record { g = g; first = p; last = p + length written - 1 }
-
 -- The runs of a batch cut it into parts, in order.
 pub learn-parted : (g p : ℕ) (written : List ℕ) → Asc 0 written → Parted (boundsOf g p written) p written (learn g p written)
 unfolding learn
 learn-parted g p written a = runs-parted (boundsOf g p written) (length written) p written (le-refl _) a (omega arith) (omega arith)
-
--- the pages of each run, one run after the other
-unfoldable pub parts : List Run → List ℕ → List (List ℕ)
-parts [] l = []
-parts (r ∷ rs) l = take (r .taken) l ∷ parts rs (drop (r .taken) l)
-
-parted-whole : (b : Bounds) (p : ℕ) (l : List ℕ) (rs : List Run) → Parted b p l rs → flatten (parts rs l) ≡ l
-unfolding parts flatten
-parted-whole b p l [] c = sym c
-parted-whole b p l (r ∷ rs) c =
-    ap (λ (m : List ℕ). take (r .taken) l ++ m) (parted-whole b (p + r .taken) (drop (r .taken) l) rs (c .1)) ∙ take-append-drop
-    (r .taken) l
-
--- The parts, one after the other, are the batch.
-pub learn-whole : (g p : ℕ) (written : List ℕ) → Asc 0 written → flatten (parts (learn g p written) written) ≡ written
-learn-whole g p written a = parted-whole (boundsOf g p written) p written (learn g p written) (learn-parted g p written a)
 
 -- A record's members are exactly the offsets of its run's pages.
 pub part-members : (b : Bounds) (p : ℕ) (l : List ℕ) (r : Run) → Part b p l r → (o : ℕ) → o < 256

@@ -25,12 +25,16 @@ pub mod Owners
 pub mod RecordCount
 pub mod SoundGroup
 pub mod SoundGroups
+pub mod Integers
+pub mod Ahead
 pub mod Run
 pub mod Stride
 pub mod Approximation
+pub mod Greedy
 pub mod Runs
+pub mod GreedyRuns
+pub mod GreedyOnly
 pub mod Sorting
 pub mod Learned
 pub mod Hits
-pub mod Greedy
 pub mod Demand2

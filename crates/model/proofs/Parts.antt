@@ -5,15 +5,26 @@ use mathlib.Core.Logic.{_⊎_, inl, inr}
 use mathlib.Core.Bool.{true, false}
 use Prim.Native.Nat.{ℕ, zero, suc, _-_, _≤_, _<_}
 use native.Mathlib.Omega.{arith}
+use lib.Dec.{ltb}
 use lib.ListN.{length, getD, take, drop, take-append-drop}
 use lib.Seq.{getD-take, length-take-le}
-use Rattle.model.specs.Lists.{elem, lastOf}
-use Rattle.model.proofs.Bools.{is-false}
+use borrow.Author.Tests.{ltb-true}
+use Rattle.model.specs.Lists.{all, elem, lastOf}
+use Rattle.model.proofs.Bools.{is-false, all-head, all-tail}
 use Rattle.model.proofs.Lists.{Asc, end, next, asc-elem, elem-cons, elem-here, elem-there, elem-getD, no-elem}
 
 -- every number of the list is below n
 abbrev pub Below : ℕ → List ℕ → Type 0
 Below n l = (x : ℕ) → elem x l ≡ true → x < n
+
+-- the test and the fact
+pub all-below : (n : ℕ) (l : List ℕ) → all (λ x. ltb x n) l ≡ true → Below n l
+all-below n [] h x e = no-elem x e
+all-below n (y ∷ l) h x e = go (elem-cons x y l e) (all-below n l (all-tail (λ x. ltb x n) y l h) x)
+  where
+    go : (x ≡ y) ⊎ (elem x l ≡ true) → (elem x l ≡ true → x < n) → x < n
+    go (inl q) ih = omega (arith, ltb-true y n (all-head (λ x. ltb x n) y l h))
+    go (inr q) ih = ih q
 
 -- taking n of a list with x in front takes x
 pub take-pred : {A : Type 0} (n : ℕ) (x : A) (l : List A) → 1 ≤ n → take n (x ∷ l) ≡ x ∷ take (n - 1) l

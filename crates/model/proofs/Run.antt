@@ -6,21 +6,13 @@ use Prim.Native.Nat.{ℕ, suc, _+_, _*_, _-_, _/_, _%_, _≤_, _<_}
 use native.Mathlib.Omega.{arith}
 use lib.Dec.{ltb, eqb}
 use lib.ListN.{length, getD, take}
-use lib.IntN.{ℤ, pos, subℕ, _+ℤ_}
+use lib.IntN.{pos, subℕ, _+ℤ_}
 use borrow.Author.Tests.{ltb-true, ltb-false, le-ltb, eq-eqb, ne-eqb}
 use Rattle.model.specs.Lists.{elem}
 use Rattle.model.specs.Record.{accurate, approximate, kindOf, kind, isApproximate, end, member, predict}
 use Rattle.model.specs.Learning.{Run, Bounds}
 use Rattle.model.specs.Sound.{soundAs}
-
--- A prediction for page p within the bounds: a page at most g away, and one of the batch's.
-pub record Near (b : Bounds) (p : ℕ) (z : ℤ) : Type 0 where
-  pub page : ℕ
-  pub is : z ≡ pos page
-  pub below : page ≤ p + b .g
-  pub above : p ≤ page + b .g
-  pub from : b .first ≤ page
-  pub to : page ≤ b .last
+use Rattle.model.specs.Demand2.{Near}
 
 -- r is a run of group k that takes the first of the offsets xs, on the pages from p on: they are its record's members, the
 -- record is sound, an accurate one or a single predicts each page, any one predicts within the bounds.

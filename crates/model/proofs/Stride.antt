@@ -15,10 +15,11 @@ use Rattle.model.specs.Device.{ceil}
 use Rattle.model.specs.Record.{Record, Kind, accurate, kindOf, covers, memberAs, member, rise, predict}
 use Rattle.model.specs.Learning.{Bounds, strideLength, accurateRun}
 use Rattle.model.specs.Sound.{isEmpty, soundAs}
+use Rattle.model.specs.Demand2.{Near}
 use Rattle.model.proofs.Bools.{and-l, and-r, and-i, iff-bool}
 use Rattle.model.proofs.Lists.{Asc, next, At, elem-at, elem-here, elem-there}
 use Rattle.model.proofs.Parts.{Below, elem-take}
-use Rattle.model.proofs.Run.{Near, RunOf, kind-even, sub-plus}
+use Rattle.model.proofs.Run.{RunOf, kind-even, sub-plus}
 
 -- k strides more are k pages more
 ceil-step : (x k d : ℕ) → 0 < d → ceil (x + k * d) d ≡ ceil x d + k

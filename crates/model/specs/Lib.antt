@@ -6,3 +6,4 @@ pub mod Learning
 pub mod Levels
 pub mod State
 pub mod Sound
+pub mod Demand2

@@ -6,7 +6,8 @@ use lib.ListN.{length}
 use Rattle.model.specs.Learning.{learn}
 use Rattle.record.specs.declared.Record.{Record}
 use Rattle.record.specs.Coding.{InEight}
-use Rattle.learn.specs.Runs.{boundsOf, runAt}
+use Rattle.model.specs.Demand2.{boundsOf}
+use Rattle.learn.specs.Runs.{runAt}
 use Rattle.learn.proofs.RunHeld.{Held, held}
 use Rattle.learn.proofs.Storing.{Stored, stored-start, stored-next, stored-all}
 use Rattle.probe.proofs.Bytes.{Bytes, bytes-start, bytes-next, bytes-all}

@@ -54,7 +54,8 @@ use Rattle.record.proofs.Record as T
 use Rattle.record.proofs.Record.Laws as T′
 use Rattle.learn.specs.declared.runs.Run.{Run}
 use Rattle.model.specs.Lists as lists
-use Rattle.learn.specs.Runs.{IsRun, Batch, boundsOf, runAt, records, counts}
+use Rattle.model.specs.Demand2.{boundsOf}
+use Rattle.learn.specs.Runs.{IsRun, Batch, runAt, records, counts}
 use Rattle.learn.proofs.RunHeld as held
 use Rattle.learn.proofs.Storing.{Stored, Turn, stored-start, listed-start, stored-next, listed-next, stored-all, listed-all}
 use Rattle.learn.proofs.runs.Run as U
