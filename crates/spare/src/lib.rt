@@ -1,5 +1,6 @@
 // The spare area as a layer of its own (document 01, 'The device'): it is erased by whole blocks, its pages are programmed once
-// after the erase, and a lookup reads from it which page holds a logical page.
+// after the erase, and a lookup reads from it which page holds a logical page. By its functions a caller can't program without an
+// erase: of those that program, `program_block` alone is public, and it erases its block first.
 ghost use mathlib.Core.Path.{_≡_};
 ghost use mathlib.Core.Bool.{true};
 ghost use Prim.Native.Nat.{_+_, _-_, _≤_, _<_};
@@ -27,7 +28,7 @@ pub enum Named {
 const NOBODY: u32 = 4294967295;
 
 // How many spare entries a page has.
-pub fn entries_per_page(d: Numbers) -> u32
+fn entries_per_page(d: Numbers) -> u32
     requires { ⌜ withinLimits (numbersOf d) ≡ true ⌝ }
     ensures { λ r. ⌜ r ≡ entriesPerPage (numbersOf d) ⌝ }
 {
@@ -51,7 +52,7 @@ pub fn spare_len(d: Numbers) -> usize
 }
 
 // Entry j of page p.
-pub fn entry(spare: &[u32], d: Numbers, p: u32, j: u32) -> u32
+fn entry(spare: &[u32], d: Numbers, p: u32, j: u32) -> u32
     requires { ⌜ (withinLimits (numbersOf d) ≡ true) × (length (now spare) ≡ spareLength (numbersOf d))
         × (p < pages (numbersOf d)) × (j < entriesPerPage (numbersOf d)) ⌝ }
     ensures { λ r. ⌜ r ≡ entry (numbersOf d) (now (spare .entry)) p j ⌝ }
@@ -159,7 +160,7 @@ fn entry_rule(d: Numbers, written: &[u32], i: u32, j: u32) -> u32
 }
 
 // Page i of block k is programmed.
-pub fn program_page(spare: &mut [u32], d: Numbers, written: &[u32], k: u32, i: u32)
+fn program_page(spare: &mut [u32], d: Numbers, written: &[u32], k: u32, i: u32)
     requires { ⌜ (withinLimits (numbersOf d) ≡ true) × (length (now spare) ≡ spareLength (numbersOf d))
         × (k < d .m) × (i < d .b) ⌝ }
     ensures { λ _. ⌜ now (spare .exit) ≡ programPage (numbersOf d) (now (written .entry)) k i (now (spare .entry)) ⌝ }
