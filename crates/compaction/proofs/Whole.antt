@@ -10,9 +10,10 @@ use Rattle.model.specs.Lists.{all}
 use Rattle.model.specs.Record.{Record}
 use Rattle.model.specs.Levels.{Group, listing, recordCount, shrinkAll, putBack, compact}
 use Rattle.model.specs.Sound.{soundRecord, soundGroup}
+use Rattle.model.specs.Totals.{total, owns, OwnedOnce}
 use Rattle.model.proofs.Bools.{all-head, all-tail, all-cons}
-use Rattle.model.proofs.Total.{total, total-putBack}
-use Rattle.model.proofs.Owners.{owns, OwnedOnce, once-of}
+use Rattle.model.proofs.Total.{total-putBack}
+use Rattle.model.proofs.Owners.{once-of}
 use Rattle.model.proofs.SoundRecord.{record-parts, parts-record}
 use Rattle.model.proofs.SoundGroup.{group-parts}
 use Rattle.group.specs.declared.Slot.{Slot}

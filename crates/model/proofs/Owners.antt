@@ -10,16 +10,13 @@ use Rattle.model.specs.Lists.{all, elem, distinct}
 use Rattle.model.specs.Record.{Record, kind, isApproximate, member}
 use Rattle.model.specs.Levels.{Level, Group, listing, shrink, keep, giveUp, giveUpAll, insert, compact}
 use Rattle.model.specs.Sound.{soundRecord, ownedOffsets}
+use Rattle.model.specs.Totals.{total, indicator, owns, OwnedOnce}
 use Rattle.model.proofs.Bools.{all-head, all-tail, all-left, all-right}
 use Rattle.model.proofs.Lists.{no-elem}
 use Rattle.model.proofs.Counting.{elem-append, elem-left, elem-right, distinct-append, distinct-right, distinct-apart, asc-distinct}
-use Rattle.model.proofs.Total.{total, Lessens, indicator, indicator-le, total-append, total-insertTop, total-insert, total-compact}
+use Rattle.model.proofs.Total.{Lessens, indicator-le, total-append, total-insertTop, total-insert, total-compact}
 use Rattle.model.proofs.SoundRecord.{sound-ascends, sound-owner, owned-member, shrunk-owned}
 use Rattle.model.proofs.SoundRecords.{insert-records, compact-records}
-
--- 1 of a record that owns o, 0 of another
-unfoldable pub owns : ℕ → Record → ℕ
-owns o r = indicator (elem o (r .owned))
 
 -- Whether r owns o, with the number.
 data Owns (o : ℕ) (r : Record) : Type 0 where
@@ -44,10 +41,6 @@ disowns o r f = go (owns? o r)
 owns-lessens : (o : ℕ) → Lessens (owns o)
 unfolding owns
 owns-lessens o lost r s e = indicator-le (elem o (s .owned)) (elem o (r .owned)) (λ h. shrunk-owned lost r s e o h .0)
-
--- each offset has at most one owner in the list
-abbrev pub OwnedOnce : List Record → Type 0
-OwnedOnce l = (o : ℕ) → total (owns o) l ≤ 1
 
 unowned : (o : ℕ) (l : List Record) → (elem o (ownedOffsets l) ≡ true → ⊥) → total (owns o) l ≡ 0
 unfolding total ownedOffsets

@@ -10,11 +10,12 @@ use lib.ListN.{length}
 use Rattle.model.specs.Lists.{elem, distinct}
 use Rattle.model.specs.Record.{Record, member}
 use Rattle.model.specs.Levels.{Group, listing, recordCount, shrink, keep, insert, insertAll, memberOfAny, shrinkAll, putBack, compact}
+use Rattle.model.specs.Totals.{total}
 use Rattle.model.proofs.Bools.{is-false}
 use Rattle.model.proofs.Lists.{elem-cons, no-elem}
 use Rattle.model.proofs.Shrink.{Outcome, gone, left, shrink-outcome}
 use Rattle.model.proofs.Counting.{distinct-cons, pigeonhole}
-use Rattle.model.proofs.Total.{total, Lessens, total-putBack, total-insertAll}
+use Rattle.model.proofs.Total.{Lessens, total-putBack, total-insertAll}
 
 -- each record counts
 each : Record → ℕ

@@ -8,8 +8,9 @@ use Rattle.model.specs.Lists.{all}
 use Rattle.model.specs.Record.{Record}
 use Rattle.model.specs.Levels.{Group, listing, insert, compact}
 use Rattle.model.specs.Sound.{soundRecord}
+use Rattle.model.specs.Totals.{total, indicator}
 use Rattle.model.proofs.Bools.{all-head, all-tail, all-cons}
-use Rattle.model.proofs.Total.{total, Lessens, indicator, total-insert, total-compact}
+use Rattle.model.proofs.Total.{Lessens, total-insert, total-compact}
 use Rattle.model.proofs.SoundRecord.{shrunk-sound}
 
 module _ (N k : ℕ) where

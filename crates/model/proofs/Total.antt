@@ -8,20 +8,11 @@ use native.Mathlib.Omega.{arith}
 use lib.Dec.{ltb}
 use Rattle.model.specs.Record.{Record, kind, isApproximate, member}
 use Rattle.model.specs.Levels.{Level, Group, listing, meets, meetsAny, shrink, keep, giveUp, giveUpAll, filled, into, Fate, stays, sinks, goes, fateLeft, fate, staying, sinking, stayers, sinkers, sink, sinkAll, insertTop, insert, insertAll, memberOfAny, shrinkAll, depth, putAt, putBack, compact}
-
--- the sum of the records' numbers
-unfoldable pub total : (Record → ℕ) → List Record → ℕ
-total m [] = 0
-total m (r ∷ l) = m r + total m l
+use Rattle.model.specs.Totals.{total, indicator}
 
 -- a shrunk record's number is at most the record's
 abbrev pub Lessens : (Record → ℕ) → Type 0
 Lessens m = (lost : ℕ → Bool) (r s : Record) → shrink lost r ≡ some s → m s ≤ m r
-
--- the number of a test: 1 where it holds, 0 where it fails
-abbrev pub indicator : Bool → ℕ
-indicator true = 1
-indicator false = 0
 
 -- a test that implies another has at most its number
 pub indicator-le : (a b : Bool) → (a ≡ true → b ≡ true) → indicator a ≤ indicator b

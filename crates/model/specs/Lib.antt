@@ -6,4 +6,5 @@ pub mod Learning
 pub mod Levels
 pub mod State
 pub mod Sound
+pub mod Totals
 pub mod Demand2

@@ -11,9 +11,9 @@ use Rattle.model.specs.Record as model
 use Rattle.model.specs.Record.{kind, isApproximate, member}
 use Rattle.model.specs.Levels.{Level, Group, listing, recordCount, giveUp, giveUpAll, filled, stayers, sinkers, sinkAll, insertTop, insert}
 use Rattle.model.specs.Sound.{isFilled, soundRecord}
+use Rattle.model.specs.Totals.{total, owns, OwnedOnce}
 use Rattle.model.proofs.Bools.{all-head, all-tail, all-cons}
-use Rattle.model.proofs.Total.{total}
-use Rattle.model.proofs.Owners.{owns, OwnedOnce, once-of}
+use Rattle.model.proofs.Owners.{once-of}
 use Rattle.model.proofs.RecordCount.{insert-count}
 use Rattle.model.proofs.SoundRecord.{record-parts, parts-record, owned-member}
 use Rattle.model.proofs.SoundGroup.{group-parts, insert-sound}

@@ -7,8 +7,8 @@ use native.Mathlib.Omega.{arith}
 use lib.ListN.{length, getD, set}
 use Rattle.model.specs.Lists.{all}
 use Rattle.model.specs.Record.{Record}
+use Rattle.model.specs.Totals.{total}
 use Rattle.model.proofs.Bools.{all-head, all-tail, all-cons}
-use Rattle.model.proofs.Total.{total}
 use Rattle.bytes.specs.Slots.{insertAt, removeAt}
 
 module _ {A : Type 0} (t : A → Bool) where

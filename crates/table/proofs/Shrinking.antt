@@ -11,10 +11,10 @@ use Rattle.model.specs.Record as model
 use Rattle.model.specs.Record.{kind, isApproximate, member}
 use Rattle.model.specs.Levels.{shrink}
 use Rattle.model.specs.Sound.{soundRecord}
+use Rattle.model.specs.Totals.{total, owns}
 use Rattle.model.proofs.Bools.{iff-bool}
 use Rattle.model.proofs.Lists.{picked}
-use Rattle.model.proofs.Total.{total, indicator-le}
-use Rattle.model.proofs.Owners.{owns}
+use Rattle.model.proofs.Total.{indicator-le}
 use Rattle.model.proofs.SoundRecord.{sound-owner, owned-member, shrunk-owned, shrunk-sound}
 use Rattle.bytes.specs.Slots.{removeAt}
 use Rattle.record.specs.declared.Record.{Record}

@@ -9,8 +9,7 @@ use Rattle.model.specs.Device.{groupLength}
 use Rattle.model.specs.Lists.{all}
 use Rattle.model.specs.Record.{Record}
 use Rattle.model.specs.Sound.{soundRecord}
-use Rattle.model.proofs.Total.{total}
-use Rattle.model.proofs.Owners.{owns}
+use Rattle.model.specs.Totals.{total, owns}
 use Rattle.bytes.specs.Slots.{insertAt, removeAt}
 use Rattle.group.specs.declared.Slot.{Slot}
 use Rattle.group.specs.Layout.{slotsOf, ownerOf}

@@ -9,10 +9,9 @@ use borrow.Author.Tests.{eqb-true, eq-eqb, ne-eqb}
 use Rattle.model.specs.Lists.{all, elem, ascending}
 use Rattle.model.specs.Record.{Record, Kind, single, accurate, approximate, kind, isApproximate}
 use Rattle.model.specs.Sound.{soundAs, soundRecord, ownsItsEnds}
+use Rattle.model.specs.Totals.{total, indicator, owns}
 use Rattle.model.proofs.Bools.{and-l, and-r, all-head, all-tail}
 use Rattle.model.proofs.Lists.{elem-here}
-use Rattle.model.proofs.Total.{total, indicator}
-use Rattle.model.proofs.Owners.{owns}
 use Rattle.model.proofs.SoundRecord.{record-parts, sound-owner}
 use Rattle.group.specs.Held.{ownerAmong}
 use Rattle.slots.specs.Owners.{either, disowned, handedOver, takenBy, leftTo}

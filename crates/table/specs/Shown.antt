@@ -8,8 +8,7 @@ use Rattle.model.specs.Device.{groupLength}
 use Rattle.model.specs.Lists.{all, elem}
 use Rattle.model.specs.Record.{Record}
 use Rattle.model.specs.Sound.{soundRecord}
-use Rattle.model.proofs.Total.{total}
-use Rattle.model.proofs.Owners.{OwnedOnce}
+use Rattle.model.specs.Totals.{total, OwnedOnce}
 use Rattle.group.specs.Layout.{slotsOf, ownerOf}
 use Rattle.group.specs.Cutting.{Placed}
 use Rattle.group.specs.Held.{slotFor}
