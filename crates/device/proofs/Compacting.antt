@@ -20,6 +20,7 @@ use Rattle.group.proofs.Holding.{sound-held}
 use Rattle.table.specs.Shown.{Tidy}
 use Rattle.compaction.proofs.Read.{read-tidy}
 use Rattle.device.specs.Reading.{groupPlace, readState}
+use Rattle.device.specs.Outside.{SameOutside}
 use Rattle.device.specs.Shaped.{Shaped}
 use Rattle.device.specs.Opening.{stateChecks}
 use Rattle.device.specs.Ran.{Ran}
@@ -56,6 +57,10 @@ module _ (d : Device) (s : List ℕ) (h : Shaped d (readState s)) (k a e : ℕ) 
   records-left t r f =
       f (d .N) k (readGroup part) (sound-held (d .N) k part is-sound) is-sound .1
       ∙ ap (λ (g : Group). recordCount (compact g)) is-group
+
+-- bytes that all stay are the same outside any group
+pub stays-outside : (d : Device) (k : ℕ) (b : List ℕ) → SameOutside d k b b
+stays-outside d k b = record { before = refl; behind = refl }
 
 -- a call on state: each refusal in order, then the group compacted
 module _ (state : List ℕ) (k : ℕ) (spare : List ℕ) where

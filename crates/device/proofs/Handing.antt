@@ -2,12 +2,12 @@
 use mathlib.Core.Path.{_≡_, sym, ap, _∙_}
 use mathlib.Core.List.{List, [], _++_}
 use mathlib.Core.Bool.{Bool, true, false, _&&_}
-use Prim.Native.Nat.{ℕ, _+_, _-_, _≤_, _<_}
+use Prim.Native.Nat.{ℕ, suc, _+_, _-_, _≤_, _<_}
 use native.Mathlib.Omega.{arith}
 use native.Mathlib.Numerals.{add-one}
 use lib.Dec.{leb}
 use lib.ListN.{length, set, take, drop, drop-of-length-le}
-use lib.Seq.{drop-cons}
+use lib.Seq.{drop-cons, drop-drop, take-at, drop-at, length-take-le}
 use Rattle.model.specs.Lists.{all, store}
 use Rattle.model.specs.Device.{Device, groupCount, groupLength}
 use Rattle.model.specs.State.{State, withGroups, groupAt}
@@ -17,10 +17,27 @@ use Rattle.model.proofs.SoundGroups.{group-sound}
 use Rattle.bytes.proofs.Stores.{lent-back}
 use Rattle.group.specs.Reading.{encodes, readGroup}
 use Rattle.group.proofs.Soundness.{sound-encodes}
-use Rattle.device.specs.Reading.{groupPlace, groupPart, readState}
+use Rattle.device.specs.Reading.{numbersAt, groupPlace, groupPart, readState}
+use Rattle.device.specs.Outside.{SameOutside}
 use Rattle.device.specs.Shaped.{Shaped}
 use Rattle.device.proofs.Writers.{group-stored}
-use Rattle.device.proofs.Shaping.{group-is, group-in, length-group}
+use Rattle.device.proofs.Places.{group-next}
+use Rattle.device.proofs.Shaping.{numbers-are, group-is, group-in, length-group}
+
+-- t put back for a part of n from a on: what stands before the part, and behind it
+module _ (s t : List ℕ) (a n : ℕ) (inside : a ≤ length s) (size : length t ≡ n) where
+  abbrev back : List ℕ
+  back = take a s ++ (t ++ drop n (drop a s))
+
+  before-part : take a back ≡ take a s
+  before-part = take-at (take a s) (t ++ drop n (drop a s)) a (length-take-le a s inside)
+
+  behind-part : drop (a + n) back ≡ drop (a + n) s
+  behind-part =
+      sym (drop-drop n a back)
+      ∙ ap (drop n) (drop-at (take a s) (t ++ drop n (drop a s)) a (length-take-le a s inside))
+      ∙ drop-at t (drop n (drop a s)) n size
+      ∙ drop-drop n a s
 
 -- what is known of the part from a to e where it is group k's
 pub record Lent (s : List ℕ) (k a e : ℕ) : Type 0 where
@@ -50,6 +67,16 @@ module _ (d : Device) (s : List ℕ) (h : Shaped d (readState s)) (k a e : ℕ) 
       ap readState (lent-back (e - a) a s t n (omega (arith, lent .inside, start, end)))
       ∙ ap (λ (p : ℕ). readState (store s p t)) start
       ∙ group-stored d s h k t lt (size ∙ lent .size)
+
+  -- and the bytes outside the part are as they were
+  pub part-outside : (t : List ℕ) → length t ≡ groupLength → SameOutside (numbersAt s) k s (take a s ++ (t ++ drop (e - a) (drop a s)))
+  part-outside t size =
+      let n : length t ≡ e - a = omega (arith, size, start, end) in
+      let low : a ≤ length s = omega (arith, lent .inside, start, end) in
+      let here : groupPlace (numbersAt s) k ≡ a = ap (λ (c : Device). groupPlace c k) (numbers-are d s h) ∙ sym start in
+      let next : groupPlace d (suc k) ≡ a + (e - a) = omega (arith, group-next d k, start, end) in
+      let there : groupPlace (numbersAt s) (suc k) ≡ a + (e - a) = ap (λ (c : Device). groupPlace c (suc k)) (numbers-are d s h) ∙ next in
+      record { before = rw here (before-part s t a (e - a) low n); behind = rw there (behind-part s t a (e - a) low n) }
 
 -- a sound group's part encodes it
 pub part-encodes : (s : List ℕ) (k a e N : ℕ) → Lent s k a e → soundGroup N k (groupAt (readState s) k) ≡ true → encodes (take (e - a) (drop a s)) ≡ true

@@ -1,7 +1,7 @@
 -- Within the limits the places of counts and groups are small and lie in the state. Assumes nothing.
 use mathlib.Core.Path.{_≡_, refl, ap, _∙_}
 use mathlib.Core.Bool.{true}
-use Prim.Native.Nat.{ℕ, _+_, _*_, _-_, _≤_, _<_}
+use Prim.Native.Nat.{ℕ, suc, _+_, _*_, _-_, _≤_, _<_}
 use native.Mathlib.Omega.{arith}
 use native.Mathlib.Nat.{mul-le-mul}
 use Rattle.model.specs.Device.{Device, withinLimits, groupCount, headLength, countLength, groupLength, stateLength}
@@ -52,6 +52,10 @@ count-before k n h = omega arith
 pub group-before : (d : Device) (k n : ℕ) → k < n → groupPlace d k + groupLength ≤ groupPlace d n
 unfolding groupPlace groupLength
 group-before d k n h = omega arith
+
+pub group-next : (d : Device) (k : ℕ) → groupPlace d (suc k) ≡ groupPlace d k + groupLength
+unfolding groupPlace groupLength
+group-next d k = omega arith
 
 -- all of them behind the head and inside the state
 pub count-low : (k : ℕ) → 16 ≤ countPlace k

@@ -1,4 +1,5 @@
 pub mod Reading
+pub mod Outside
 pub mod Ran
 pub mod Shaped
 pub mod Formatting

@@ -9,12 +9,15 @@ use crate::opening::check_state;
 ghost use mathlib.Core.List.{List, []};
 ghost use Prim.Native.Nat.{ℕ};
 ghost use Rattle.calls.specs.History.{compactCall};
+ghost use Rattle.device.specs.Reading.{numbersAt};
+ghost use Rattle.device.specs.Outside.{SameOutside};
 ghost use Rattle.device.specs.Answers.{compactAnswer};
 ghost use Rattle.device.specs.Ran.{Ran};
 
-// Document 01's compaction. It is lent no spare area: whatever that is, it stays.
+// Document 01's compaction. It is lent no spare area: whatever that is, it stays. So does each byte outside the group's part.
 pub fn compact(state: &mut [u8], group: u32) -> Compacted
-    ensures { λ r. ⌜ ((spare : List ℕ) → Ran (compactCall group) (now (state .entry)) spare (compactAnswer r) (now (state .exit)) spare [] []) ⌝ }
+    ensures ran { λ r. ⌜ ((spare : List ℕ) → Ran (compactCall group) (now (state .entry)) spare (compactAnswer r) (now (state .exit)) spare [] []) ⌝ }
+    ensures outside { λ _. ⌜ SameOutside (numbersAt (now (state .entry))) group (now (state .entry)) (now (state .exit)) ⌝ }
 {
     let opened = check_state(state);
     let d = match opened {

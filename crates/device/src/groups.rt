@@ -17,7 +17,8 @@ ghost use Rattle.calls.specs.Compaction.{compactGroup};
 ghost use Rattle.spare.specs.Read.{numbersOf};
 ghost use Rattle.record.specs.Read.{bare};
 ghost use Rattle.group.specs.Answers.{foundOf, lookedOf};
-ghost use Rattle.device.specs.Reading.{readState};
+ghost use Rattle.device.specs.Reading.{numbersAt, readState};
+ghost use Rattle.device.specs.Outside.{SameOutside};
 ghost use Rattle.device.specs.Shaped.{Shaped};
 
 // Whether group k is sound.
@@ -46,8 +47,9 @@ pub fn find(state: &[u8], d: Numbers, k: u32, o: u32) -> Hit
 pub fn compact_group(state: &mut [u8], d: Numbers, k: u32) -> u32
     requires { ⌜ Shaped (numbersOf d) (readState (now state)) × (k < groupCount (numbersOf d))
         × (soundGroup (d .n) k (groupAt (readState (now state)) k) ≡ true) ⌝ }
-    ensures { λ r. ⌜ (readState (now (state .exit)) ≡ compactGroup k (readState (now (state .entry))))
+    ensures read { λ r. ⌜ (readState (now (state .exit)) ≡ compactGroup k (readState (now (state .entry))))
         × (r ≡ recordCount (compact (groupAt (readState (now (state .entry))) k))) ⌝ }
+    ensures outside { λ _. ⌜ SameOutside (numbersAt (now (state .entry))) k (now (state .entry)) (now (state .exit)) ⌝ }
 {
     let a = group_place(d, k);
     let e = group_end(d, k);

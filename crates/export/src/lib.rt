@@ -15,7 +15,8 @@ ghost use mathlib.Core.Path.{_≡_};
 ghost use mathlib.Core.List.{List, []};
 ghost use Prim.Native.Nat.{ℕ};
 ghost use Rattle.calls.specs.History.{formatCall, flushCall, lookupCall, collectCall, compactCall, agreeCall};
-ghost use Rattle.device.specs.Reading.{readState};
+ghost use Rattle.device.specs.Reading.{numbersAt, readState};
+ghost use Rattle.device.specs.Outside.{SameOutside};
 ghost use Rattle.device.specs.Listing.{list};
 ghost use Rattle.export.specs.Packing.{packedListing, Packs, stateLen, spareLen};
 
@@ -96,10 +97,11 @@ pub extern "C" fn hedjosur_collect(
     pack::collect(collect(state, spare, plan, erased))
 }
 
-// Document 01's compaction: the records left.
+// Document 01's compaction: the records left. Each byte outside the group's part stays.
 #[no_mangle]
 pub extern "C" fn hedjosur_compact(state: &mut [u8], group: u32) -> u64
-    ensures { λ r. ⌜ ((spare : List ℕ) → Packs (compactCall group) (now (state .entry)) spare r (now (state .exit)) spare [] []) ⌝ }
+    ensures packs { λ r. ⌜ ((spare : List ℕ) → Packs (compactCall group) (now (state .entry)) spare r (now (state .exit)) spare [] []) ⌝ }
+    ensures outside { λ _. ⌜ SameOutside (numbersAt (now (state .entry))) group (now (state .entry)) (now (state .exit)) ⌝ }
 {
     pack::compact(compact(state, group))
 }

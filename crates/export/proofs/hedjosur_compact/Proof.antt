@@ -1,4 +1,4 @@
--- The answer, packed, whatever the spare area is.
+-- The answer, packed, whatever the spare area is; what stays is compaction's own.
 use borrow.Author.Needs.{needs}
 use Rattle.device.specs.Answers.{compactAnswer}
 use Rattle.export.proofs.hedjosur_compact.Statement.{statement}
@@ -14,7 +14,9 @@ same-length : tie.Need-same-length
 same-length c = search needs
 
 returns : tie.Need-returns
-returns c = λ spare. record { answer = compactAnswer (c .before .before .before .compact .result); ran = c .before .before .before .compact .ensures spare; is = c .compact2 .ensures }
+returns c =
+    let e = c .before .before .before .compact .ensures in
+    (λ spare. record { answer = compactAnswer (c .before .before .before .compact .result); ran = e .0 spare; is = c .compact2 .ensures }, e .1)
 
 pub hedjosur-compact-spec : {M : Type 1} → statement M
 hedjosur-compact-spec =

@@ -1,4 +1,5 @@
--- Each refusal, in order, by the law of its return; then the group is compacted.
+-- Each refusal, in order, by the law of its return; then the group is compacted. A refusal leaves all bytes, the compaction those
+-- outside the group's part.
 use mathlib.Core.Path.{_≡_, sym, _∙_}
 use mathlib.Core.Bool.{true}
 use Prim.Native.Nat.{_<_}
@@ -13,7 +14,7 @@ use Rattle.device.specs.Reading.{readState}
 use Rattle.device.specs.Shaped.{Shaped}
 use Rattle.device.specs.Answers.{refusalOf, compactAnswer}
 use Rattle.device.proofs.Refusing.{answered-device, answered-refusal}
-use Rattle.device.proofs.Compacting.{compact-closed, compact-range, compact-unsound, compact-done}
+use Rattle.device.proofs.Compacting.{stays-outside, compact-closed, compact-range, compact-unsound, compact-done}
 use Rattle.device.proofs.compact.compact.Statement.{statement}
 use Rattle.device.proofs.compact.compact.Tie as tie
 
@@ -45,7 +46,7 @@ same-length c = search needs
 
 returns : tie.Need-returns
 unfolding compactAnswer
-returns c = λ spare. compact-closed _ _ spare _ (answered-refusal _ _ _ (c .before .before .before .check-state .ensures) (c .before .opened2 .given .1))
+returns c = (λ spare. compact-closed _ _ spare _ (answered-refusal _ _ _ (c .before .before .before .check-state .ensures) (c .before .opened2 .given .1)), stays-outside _ _ _)
 
 group-count-requires : tie.Need-group-count-requires
 group-count-requires c κs = shape c .limits
@@ -55,7 +56,7 @@ same-length-2 c = search needs
 
 returns-2 : tie.Need-returns-2
 unfolding compactAnswer refusalOf
-returns-2 c = λ spare. compact-range _ _ spare _ (shape (c .before .before)) (omega (arith, c .if1 .taken, c .before .group-count .ensures))
+returns-2 c = (λ spare. compact-range _ _ spare _ (shape (c .before .before)) (omega (arith, c .if1 .taken, c .before .group-count .ensures)), stays-outside _ _ _)
 
 group-sound-requires : tie.Need-group-sound-requires
 group-sound-requires c κs = (shape (c .before .before .before), inside (c .before))
@@ -65,9 +66,11 @@ same-length-3 c = search needs
 
 returns-3 : tie.Need-returns-3
 unfolding compactAnswer refusalOf
-returns-3 c =
-    λ spare. compact-unsound _ _ spare _ (shape (c .before .before .before .before .before)) (inside (c .before .before .before))
-    (sym (c .before .group-sound .ensures) ∙ not-true (c .before .group-sound .result) (c .if2 .taken))
+returns-3 c = (
+  λ spare. compact-unsound _ _ spare _ (shape (c .before .before .before .before .before)) (inside (c .before .before .before))
+      (sym (c .before .group-sound .ensures) ∙ not-true (c .before .group-sound .result) (c .if2 .taken)),
+  stays-outside _ _ _,
+)
 
 compact-group-requires : tie.Need-compact-group-requires
 compact-group-requires c κs = (shape (c .before .before .before .before .before .before), inside (c .before .before .before .before), sound (c .before))
@@ -78,8 +81,10 @@ same-length-4 c = search needs
 returns-4 : tie.Need-returns-4
 unfolding compactAnswer
 returns-4 c =
-    let done = c .before .before .compact-group .ensures in
-    λ spare. compact-done _ _ spare _ (shape (c .before .before .before .before .before .before .before .before .before)) (inside (c .before .before .before .before .before .before .before)) (sound (c .before .before .before .before)) _ _ (done .0) (done .1)
+    let done = c .before .before .compact-group .ensures in (
+      λ spare. compact-done _ _ spare _ (shape (c .before .before .before .before .before .before .before .before .before)) (inside (c .before .before .before .before .before .before .before)) (sound (c .before .before .before .before)) _ _ (done .0 .0) (done .0 .1),
+      done .1,
+    )
 
 pub compact-spec : {M : Type 1} → statement M
 compact-spec =

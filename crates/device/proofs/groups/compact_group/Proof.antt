@@ -1,6 +1,6 @@
--- The part is group k; the law of a sound group's part compacted.
+-- The part is group k; the law of a sound group's part compacted, and the bytes outside the part stay.
 use native.Mathlib.Omega.{arith}
-use Rattle.device.proofs.Handing.{Lent, lent}
+use Rattle.device.proofs.Handing.{Lent, lent, part-outside}
 use Rattle.device.proofs.Compacting.{part-tidy, part-compacted, records-left}
 use borrow.Author.Needs.{needs}
 use Rattle.device.proofs.groups.compact_group.Statement.{statement}
@@ -36,8 +36,10 @@ returns c =
     let start = c .before .before .before .before .before in
     let end = c .before .before .before .before in
     let pre = c .before .before .before .before .before .before .before .pre in
-    let done = c .before .before .compact .ensures in
-    (part-compacted _ _ (pre .0) _ _ _ (pre .1) (start .group-place .ensures) (end .group-end .ensures) (pre .2) _ (done .0) (done .2), records-left _ _ (pre .0) _ _ _ (pre .1) (start .group-place .ensures) (end .group-end .ensures) (pre .2) _ _ (done .1))
+    let done = c .before .before .compact .ensures in (
+      (part-compacted _ _ (pre .0) _ _ _ (pre .1) (start .group-place .ensures) (end .group-end .ensures) (pre .2) _ (done .0) (done .2), records-left _ _ (pre .0) _ _ _ (pre .1) (start .group-place .ensures) (end .group-end .ensures) (pre .2) _ _ (done .1)),
+      part-outside _ _ (pre .0) _ _ _ (pre .1) (start .group-place .ensures) (end .group-end .ensures) (c .before .before .compact .last .0) (done .0),
+    )
 
 pub compact-group-spec : {M : Type 1} → statement M
 compact-group-spec =

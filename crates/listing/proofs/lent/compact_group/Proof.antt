@@ -22,7 +22,7 @@ same-length : tie.Need-same-length
 same-length c = search needs
 
 returns : tie.Need-returns
-returns c = λ spare. obeyed (c .before .before .before .compact .ensures (take (c .before .before .before .before .before .before .args .held .spare) spare)) (c .compacted .ensures) (front-back _ _ _ (c .before .before .before .before .before .before .pre) (c .before .before .before .compact .kept .0)) refl
+returns c = λ spare. obeyed (c .before .before .before .compact .ensures .0 (take (c .before .before .before .before .before .before .args .held .spare) spare)) (c .compacted .ensures) (front-back _ _ _ (c .before .before .before .before .before .before .pre) (c .before .before .before .compact .kept .0)) refl
 
 pub compact-group-spec : {M : Type 1} → statement M
 compact-group-spec =
