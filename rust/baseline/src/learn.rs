@@ -2,7 +2,9 @@
 
 use std::ops::RangeInclusive;
 
-use crate::record::{Record, RECORD_BYTES};
+use hedjosur_layout::RECORD_BYTES;
+
+use crate::record::Record;
 
 /// The logical pages of a group.
 const GROUP_PAGES: u32 = 256;

@@ -7,17 +7,15 @@
 //! - [`record`]: the record by value, and [`offsets`]: a set of offsets
 //! - [`group`]: one group's bytes: soundness, find, insert, compact, take in
 //! - [`device`]: the calls on a whole state
-//! - [`layout`]: the same bytes told in the model's terms, for tests
 //!
-//! Answers and refusals are the model's types; nothing else here is the model's
-//! but [`layout`].
+//! Answers and refusals are the model's types, and lengths and places are the
+//! constants of `hedjosur_layout`; the rest is written here once more, for speed.
 
 #![forbid(unsafe_code)]
 #![warn(missing_docs)]
 
 pub mod device;
 pub mod group;
-pub mod layout;
 pub mod learn;
 pub mod offsets;
 pub mod record;

@@ -1,9 +1,8 @@
 //! The record by value.
 
-use crate::offsets::Offsets;
+use hedjosur_layout::RECORD_BYTES;
 
-/// A record's bytes: start, span, word and intercept, little-endian.
-pub const RECORD_BYTES: usize = 8;
+use crate::offsets::Offsets;
 
 /// A record; the offsets that an approximate one owns are kept by its group.
 #[derive(Clone, Copy, Debug, Default, PartialEq, Eq)]

@@ -14,6 +14,12 @@ use crate::timing::compare;
 /// How many inputs of a pattern take turns.
 const INPUTS: u64 = 8;
 
+/// Learning, by the baseline or the proved code.
+type Learn = fn(written: &[u32], first: u32, bound: u32, out: &mut [u8]) -> usize;
+
+/// Sorting, by the baseline or the proved code.
+type Sort = fn(batch: &[u32], pages: &mut [u32], sources: &mut [u32]) -> usize;
+
 /// A pattern's name and one of its batches.
 type Pattern = (&'static str, fn(&mut Random) -> Vec<u32>);
 
@@ -74,7 +80,7 @@ pub fn learning() {
     for pattern in LEARNED {
         for bound in [0, 1, 4, 15] {
             let batches = inputs(pattern);
-            let run = |learn: probe::Learn| {
+            let run = |learn: Learn| {
                 let batches = &batches;
                 move |out: &mut [u8; 8 * BATCH]| {
                     for batch in batches {
@@ -87,7 +93,7 @@ pub fn learning() {
                 batches.len(),
                 |_| (),
                 run(learn),
-                probe::LEARN.map(run),
+                run(probe::learn),
             );
             print("learn", &format!("{}, g {bound}", pattern.0), times);
         }
@@ -98,7 +104,7 @@ pub fn learning() {
 pub fn sorting() {
     for pattern in SORTED {
         let batches = inputs(pattern);
-        let run = |sort: probe::Sort| {
+        let run = |sort: Sort| {
             let batches = &batches;
             move |[pages, sources]: &mut [[u32; BATCH]; 2]| {
                 for batch in batches {
@@ -111,7 +117,7 @@ pub fn sorting() {
             batches.len(),
             |_| (),
             run(sort_batch),
-            probe::SORT.map(run),
+            run(probe::sort),
         );
         print("sort", pattern.0, times);
     }

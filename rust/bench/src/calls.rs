@@ -3,9 +3,9 @@
 use std::hint::black_box;
 
 use hedjosur_baseline::device;
-use hedjosur_baseline::layout::{encode_state, state_bytes};
 use hedjosur_conformance::calls::Calls;
 use hedjosur_conformance::subjects::{Baseline, Exported};
+use hedjosur_layout::{encode_state, state_bytes};
 use hedjosur_model::device::Device;
 use hedjosur_model::ops::{Collected, Flushed, Refusal};
 use hedjosur_model::spare;
@@ -137,7 +137,7 @@ pub fn lookup() {
                         }
                     }
                 },
-                Some(|work: &mut Vec<Lookups>| {
+                |work| {
                     for Lookups { buffers, pages } in work {
                         let device = hedjosur::Device {
                             state: &buffers.state[..],
@@ -147,7 +147,7 @@ pub fn lookup() {
                             let _ = black_box(device.lookup(page));
                         }
                     }
-                }),
+                },
             );
             print("lookup", &format!("{}, g {bound}", records(size)), times);
         }
@@ -220,7 +220,7 @@ fn time(function: &str, input: &str, before: Buffers, call: impl Fn(&dyn Calls, 
         1,
         Changed::restore,
         |changed| call(&Baseline, &mut changed.now),
-        Some(|changed: &mut Changed| call(&Exported, &mut changed.now)),
+        |changed| call(&Exported, &mut changed.now),
     );
     print(function, input, times);
 }

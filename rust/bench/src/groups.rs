@@ -3,18 +3,27 @@
 
 use std::hint::black_box;
 
-use hedjosur_baseline::group::{self, Part};
-use hedjosur_baseline::layout::{encode_group, encode_record, GROUP_BYTES};
+use hedjosur_baseline::group;
 use hedjosur_baseline::offsets::Offsets;
 use hedjosur_baseline::record::Record;
 use hedjosur_conformance::inputs::{all_offsets, mask_of};
 use hedjosur_conformance::subjects::{Baseline, Subject};
+use hedjosur_layout::{encode_group, encode_record, Part, GROUP_BYTES};
 use hedjosur_model::levels::Group;
 use hedjosur_model::testing::{any_record, Random};
 use hedjosur_probe_sys as probe;
 
 use crate::print;
 use crate::timing::compare;
+
+/// The check of soundness, by the baseline or the proved code.
+type Sound = fn(part: &Part, logical_pages: u32, number: u32) -> bool;
+
+/// Finding an offset, by the baseline or the proved code.
+type Find = fn(part: &Part, offset: u8) -> probe::Found;
+
+/// Compaction, by the baseline or the proved code.
+type Compact = fn(part: &mut Part) -> usize;
 
 /// How many groups of a size take turns.
 const GROUPS: u64 = 16;
@@ -62,7 +71,7 @@ pub fn records(size: usize) -> String {
 /// Times the check of soundness.
 pub fn soundness() {
     for size in SIZES {
-        let run = |sound: probe::Sound| {
+        let run = |sound: Sound| {
             move |groups: &mut Vec<Part>| {
                 for part in groups {
                     black_box(sound(black_box(part), 256, 0));
@@ -74,7 +83,7 @@ pub fn soundness() {
             GROUPS as usize,
             |_| (),
             run(group::sound),
-            probe::SOUND.map(run),
+            run(probe::sound),
         );
         print("sound", &records(size), times);
     }
@@ -85,7 +94,7 @@ pub fn finding() {
     for size in SIZES {
         let mut random = Random::new(0);
         let offsets: Vec<u8> = (0..GROUPS).map(|_| random.bits() as u8).collect();
-        let run = |find: probe::Find| {
+        let run = |find: Find| {
             let offsets = &offsets;
             move |groups: &mut Vec<Part>| {
                 for (part, &offset) in groups.iter().zip(offsets) {
@@ -98,7 +107,7 @@ pub fn finding() {
             GROUPS as usize,
             |_| (),
             run(find),
-            probe::FIND.map(run),
+            run(probe::find),
         );
         print("find", &records(size), times);
     }
@@ -158,12 +167,9 @@ pub fn insertion() {
                 black_box(part);
             }
         };
-        let run = |insert: probe::Insert| {
-            let records_in = &records_in;
-            move |groups: &mut Changed| {
-                for (part, new) in groups.now.iter_mut().zip(records_in) {
-                    black_box(insert(part, &new.record, &new.mask));
-                }
+        let proved = |groups: &mut Changed| {
+            for (part, new) in groups.now.iter_mut().zip(&records_in) {
+                black_box(probe::insert(part, &new.record, &new.mask));
             }
         };
         let times = compare(
@@ -171,7 +177,7 @@ pub fn insertion() {
             GROUPS as usize,
             Changed::restore,
             baseline,
-            probe::INSERT.map(run),
+            proved,
         );
         print("insert", &records(size), times);
     }
@@ -180,7 +186,7 @@ pub fn insertion() {
 /// Times the check of soundness and compaction.
 pub fn compaction() {
     for size in SIZES {
-        let run = |compact: probe::Compact| {
+        let run = |compact: Compact| {
             move |groups: &mut Changed| {
                 for part in &mut groups.now {
                     black_box(compact(part));
@@ -192,7 +198,7 @@ pub fn compaction() {
             GROUPS as usize,
             Changed::restore,
             run(compact),
-            probe::COMPACT.map(run),
+            run(probe::compact),
         );
         print("compact", &records(size), times);
     }

@@ -1,7 +1,6 @@
 //! Times the proved code, through its static libraries, beside the baseline: the
-//! same inputs in the same run, as ratios. First the inner functions (one that the
-//! library doesn't have is told as missing; the baseline is timed all the same),
-//! then the calls.
+//! same inputs in the same run, as ratios. First the inner functions, then the
+//! calls.
 //!
 //! `cargo run --release -p hedjosur-bench` in this workspace, best on a machine
 //! with nothing else to do.
@@ -36,10 +35,7 @@ fn main() {
 
 /// Prints one line of the table.
 fn print(function: &str, input: &str, times: Comparison) {
-    let baseline = times.baseline;
-    let (proved, ratio) = match times.proved {
-        Some(proved) => (format!("{proved:.3}"), format!("{:.2}", proved / baseline)),
-        None => ("missing".to_string(), "-".to_string()),
-    };
-    println!("{function:<12} {input:<30} {baseline:>12.3} {proved:>12} {ratio:>8}");
+    let Comparison { baseline, proved } = times;
+    let ratio = proved / baseline;
+    println!("{function:<12} {input:<30} {baseline:>12.3} {proved:>12.3} {ratio:>8.2}");
 }

@@ -17,8 +17,8 @@ const FEWEST: usize = 7;
 pub struct Comparison {
     /// By the baseline.
     pub baseline: f64,
-    /// By the proved code, where it is there.
-    pub proved: Option<f64>,
+    /// By the proved code.
+    pub proved: f64,
 }
 
 /// Times two ways to do `operations` operations. `prepare` comes before each and
@@ -28,23 +28,21 @@ pub fn compare<W>(
     operations: usize,
     prepare: impl Fn(&mut W),
     baseline: impl Fn(&mut W),
-    proved: Option<impl Fn(&mut W)>,
+    proved: impl Fn(&mut W),
 ) -> Comparison {
     let mut by_baseline = Side::new(work, &prepare, &baseline);
-    let mut by_proved = proved.map(|run| (Side::new(work, &prepare, &run), run));
+    let mut by_proved = Side::new(work, &prepare, &proved);
     let start = Instant::now();
     for done in 0..BATCHES {
         if done >= FEWEST && start.elapsed() > MOST {
             break;
         }
         by_baseline.time_batch(work, &prepare, &baseline);
-        if let Some((side, run)) = &mut by_proved {
-            side.time_batch(work, &prepare, run);
-        }
+        by_proved.time_batch(work, &prepare, &proved);
     }
     Comparison {
         baseline: by_baseline.median(operations),
-        proved: by_proved.map(|(side, _)| side.median(operations)),
+        proved: by_proved.median(operations),
     }
 }
 

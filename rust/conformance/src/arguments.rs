@@ -1,9 +1,8 @@
 //! Single calls: on arbitrary states, with wrong lengths, and with numbers at and
 //! past their limits.
 
-use hedjosur_baseline::layout::{
-    encode_state, groups_at, state_bytes, GROUP_BYTES, HEAD_BYTES, LISTING_BYTES,
-};
+use hedjosur::LISTING_LEN;
+use hedjosur_layout::{encode_state, groups_at, state_bytes, GROUP_BYTES, HEAD_BYTES};
 use hedjosur_model::device::{group_of, offset_of, Device};
 use hedjosur_model::ops::Refusal;
 use hedjosur_model::spare;
@@ -13,7 +12,8 @@ use hedjosur_model::testing::{
     Random,
 };
 
-use crate::beside::{Answers, Beside};
+use crate::answers::Answers;
+use crate::beside::Beside;
 use crate::calls::Calls;
 use crate::inputs::damage;
 
@@ -55,7 +55,7 @@ pub fn check_arbitrary_states(calls: &impl Calls, base: u64) {
                 5 => drop(beside.collect(&mut plan, &mut erased)),
                 6 => {
                     let group = random.below(device.groups() as u32 + 2);
-                    let mut out = vec![0u8; LISTING_BYTES];
+                    let mut out = vec![0u8; LISTING_LEN];
                     resize(random, &mut out);
                     let _ = beside.list(group, out.len());
                     let _ = beside.compact(group);
@@ -155,7 +155,7 @@ fn lengths_around(right: usize) -> [usize; 9] {
         right,
         right + 1,
         2 * right,
-        right + 5636,
+        right + GROUP_BYTES,
     ]
 }
 
@@ -198,8 +198,11 @@ pub fn check_wrong_lengths(calls: &impl Calls) {
             }
         }
     });
-    let [accepted, numbers, length, ..] = answers.totals();
-    assert!(accepted > 0 && numbers > 0 && length > 0, "{answers:?}");
+    let refused = [Refusal::BadNumbers, Refusal::BadLength].map(|why| answers.refused(why));
+    assert!(
+        answers.accepted() > 0 && refused.iter().all(|&times| times > 0),
+        "{answers:?}"
+    );
     answers.tell("wrong lengths", 1700 * multiplier() as usize);
 }
 
@@ -208,7 +211,7 @@ fn list_lengths(device: &Device) -> [usize; 3] {
     [
         device.block_pages as usize,
         device.blocks as usize,
-        LISTING_BYTES,
+        LISTING_LEN,
     ]
 }
 
@@ -248,7 +251,7 @@ pub fn check_limits(calls: &impl Calls) {
         let device = Device::new(numbers);
         let expected = device.map(|device| [state_bytes(&device), device.spare_length()]);
         assert_eq!(calls.lengths(numbers), expected, "{numbers:?}");
-        let outside = Err(Refusal::DeviceNumbers);
+        let outside = Err(Refusal::BadNumbers);
         for length in ["state_len", "spare_len"] {
             answers.count(length, &expected.map_or(outside, |_| Ok(())));
         }
@@ -314,7 +317,7 @@ pub fn check_arguments(calls: &impl Calls) {
         }
         for group in (0..groups + 2).chain(far) {
             let expected = (group >= groups).then_some(Refusal::OutOfRange);
-            assert_eq!(beside.list(group, LISTING_BYTES).err(), expected);
+            assert_eq!(beside.list(group, LISTING_LEN).err(), expected);
             assert_eq!(beside.compact(group).err(), expected);
         }
         let formatted = beside.lent();
@@ -328,7 +331,7 @@ pub fn check_arguments(calls: &impl Calls) {
                     let expected = match length {
                         1..=256 if page < n => None,
                         1..=256 => Some(Refusal::OutOfRange),
-                        _ => Some(Refusal::BatchLength),
+                        _ => Some(Refusal::BadBatch),
                     };
                     assert_eq!(beside.flush(&batch, &mut plan).err(), expected);
                 }

@@ -1,6 +1,6 @@
 //! Sorting and learning against the model.
 
-use hedjosur_baseline::layout::encode_record;
+use hedjosur_layout::encode_record;
 use hedjosur_model::learn::{last_arrivals, learn};
 use hedjosur_model::testing::{rounds, small_device};
 

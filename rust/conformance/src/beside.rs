@@ -1,54 +1,18 @@
 //! An implementation of the calls beside the model: answers, refusals and the
 //! contents of every lent slice have to be equal after every call.
 
-use std::collections::BTreeMap;
 use std::fmt::Debug;
-use std::io::{self, Write};
 
-use hedjosur_baseline::layout::{read_state, state_bytes, LISTING_BYTES};
+use hedjosur::LISTING_LEN;
+use hedjosur_layout::{read_state, state_bytes};
 use hedjosur_model::device::Device;
 use hedjosur_model::ops::{self, Collected, Flushed, Lookup, Refusal};
 use hedjosur_model::script::{listed, Answer, Line, Listed};
 use hedjosur_model::state::Lent;
 use hedjosur_model::testing::{lists, CallLog, World};
 
+use crate::answers::Answers;
 use crate::calls::Calls;
-
-/// How often calls of each kind were accepted, and refused for each reason.
-#[derive(Clone, Debug, Default)]
-pub struct Answers(BTreeMap<&'static str, [usize; 9]>);
-
-impl Answers {
-    /// Counts a call.
-    pub fn count<T>(&mut self, call: &'static str, answer: &Result<T, Refusal>) {
-        let refusal = answer.as_ref().err().map_or(0, |refusal| refusal.number());
-        self.0.entry(call).or_default()[refusal as usize] += 1;
-    }
-
-    /// How many calls were accepted, and how many refused 1 to 8.
-    pub fn totals(&self) -> [usize; 9] {
-        std::array::from_fn(|number| self.0.values().map(|answers| answers[number]).sum())
-    }
-
-    /// Tells how many calls were made without a difference: at least `least`.
-    pub fn tell(&self, check: &str, least: usize) {
-        let totals = self.totals();
-        let calls: usize = totals.iter().sum();
-        let kinds = self.0.iter().map(|(kind, answers)| {
-            let times: usize = answers.iter().sum();
-            format!("{kind} {times}")
-        });
-        let kinds: Vec<String> = kinds.collect();
-        // Written past the capture of the tests' output, so that every run shows it.
-        let _ = writeln!(
-            io::stderr(),
-            "{check}: {calls} calls without a difference ({}); refused 1 to 8: {:?}",
-            kinds.join(", "),
-            &totals[1..]
-        );
-        assert!(calls >= least, "{check}: {calls} calls, not {least}");
-    }
-}
 
 /// A device as an implementation of the calls leaves it, beside the model's.
 #[derive(Debug)]
@@ -223,8 +187,8 @@ impl<'a, C: Calls> Beside<'a, C> {
             "list",
             |model| {
                 model.lent.open()?;
-                let fits = length == LISTING_BYTES;
-                fits.then_some(()).ok_or(Refusal::Length)?;
+                let fits = length == LISTING_LEN;
+                fits.then_some(()).ok_or(Refusal::BadLength)?;
                 ops::list(&model.lent, group).map(listed)
             },
             |calls, state, _| calls.list(state, group, &mut out),
@@ -244,7 +208,7 @@ impl<'a, C: Calls> Beside<'a, C> {
             Err(_) => 1,
         };
         for group in 0..groups {
-            let _ = self.list(group, LISTING_BYTES);
+            let _ = self.list(group, LISTING_LEN);
         }
     }
 
@@ -281,7 +245,7 @@ impl<'a, C: Calls> Beside<'a, C> {
                 Answer::Collected(collected, [plan, erased])
             }
             Line::Compaction(group) => Answer::Compacted(self.compact(*group)?),
-            Line::List(group) => Answer::Listed(self.list(*group, LISTING_BYTES)?),
+            Line::List(group) => Answer::Listed(self.list(*group, LISTING_LEN)?),
         })
     }
 }

@@ -1,7 +1,6 @@
 //! Soundness, find, insertion and compaction against the model.
 
-use hedjosur_baseline::group::Part;
-use hedjosur_baseline::layout::{decode_group, encode_record, read_group};
+use hedjosur_layout::{decode_group, encode_record, read_group, Part};
 use hedjosur_model::device::Device;
 use hedjosur_model::learn::{last_arrivals, learn};
 use hedjosur_model::levels::{Group, GROUP_RECORDS};

@@ -1,7 +1,8 @@
 //! Lists of calls that start with a format: document 01's cases and script, and
 //! random ones.
 
-use hedjosur_baseline::layout::{state_bytes, LISTING_BYTES};
+use hedjosur::LISTING_LEN;
+use hedjosur_layout::state_bytes;
 use hedjosur_model::cases::{cases, LISTING, SCRIPT};
 use hedjosur_model::device::{group_of, Device};
 use hedjosur_model::learn::{last_arrivals, learn};
@@ -12,7 +13,8 @@ use hedjosur_model::testing::{
     any_area, batch, full_device, lists, multiplier, rounds, small_device, CallLog, Random,
 };
 
-use crate::beside::{Answers, Beside};
+use crate::answers::Answers;
+use crate::beside::Beside;
 use crate::calls::Calls;
 
 /// Every case of document 01, call by call.
@@ -65,9 +67,13 @@ pub fn check_histories(calls: &impl Calls, base: u64) {
         history(&mut beside, &device, random);
     });
     // From a format, 3 and 7 never occur; 1, 2 and 5 need other arguments.
-    let [accepted, _, _, unsound, _, _, no_free, not_named, no_gain] = answers.totals();
-    assert!(accepted > 0 && no_free > 0 && no_gain > 0, "{answers:?}");
-    assert_eq!((unsound, not_named), (0, 0));
+    let refused = |why| answers.refused(why);
+    let [no_free, no_gain] = [Refusal::NoFreeBlock, Refusal::NothingToGain].map(refused);
+    assert!(
+        answers.accepted() > 0 && no_free > 0 && no_gain > 0,
+        "{answers:?}"
+    );
+    assert_eq!([Refusal::NotSound, Refusal::NotNamed].map(refused), [0, 0]);
     answers.tell("histories", 150 * (base * multiplier()) as usize);
 }
 
@@ -133,7 +139,7 @@ fn is_compacted_for_room<C: Calls>(
     let mut more = None;
     for batch in batches {
         let [mut plan, mut erased] = lists(device);
-        let before = beside.list(0, LISTING_BYTES).expect("a listing").len();
+        let before = beside.list(0, LISTING_LEN).expect("a listing").len();
         if beside.flush(&batch, &mut plan).is_err() {
             assert!(beside.collect(&mut plan, &mut erased).is_ok());
             assert!(beside.flush(&batch, &mut plan).is_ok());
@@ -180,7 +186,7 @@ pub fn check_largest_device(calls: &impl Calls) {
                 let _ = beside.lookup(logical_page);
             }
             let group = group_of(batch[0]) as u32;
-            assert!(beside.list(group, LISTING_BYTES).is_ok());
+            assert!(beside.list(group, LISTING_LEN).is_ok());
         }
         let groups = device.groups() as u32;
         assert!(beside.compact(groups - 1).is_ok());

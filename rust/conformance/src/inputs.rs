@@ -2,9 +2,9 @@
 
 use std::collections::BTreeSet;
 
-use hedjosur_baseline::group::Part;
-use hedjosur_baseline::layout::{
-    decode_group, encode_group, owner_at, GROUP_BYTES, OWNED_AT, SLOTS_AT, SLOT_BYTES,
+use hedjosur_layout::{
+    decode_group, encode_group, owner_at, put_u16, u16_at, Part, GROUP_BYTES, LEVEL_AT, OWNED_AT,
+    SLOTS_AT, SLOT_BYTES, USED_AT, WORD_AT,
 };
 use hedjosur_model::device::Device;
 use hedjosur_model::levels::Group;
@@ -94,7 +94,7 @@ pub fn mask_of(record: &Record) -> [u8; 256] {
 /// Damages a few places of a group's bytes, chosen so that each clause of
 /// soundness breaks now and then, and now and then none.
 pub fn damage(random: &mut Random, bytes: &mut Part) {
-    let used = u32::from(u16::from_le_bytes([bytes[0], bytes[1]]));
+    let used = u32::from(u16_at(bytes, USED_AT));
     for _ in 0..random.between(1, 2) {
         let slot = SLOTS_AT + SLOT_BYTES * random.below(used.clamp(1, 512)) as usize;
         let number = match random.below(4) {
@@ -103,33 +103,29 @@ pub fn damage(random: &mut Random, bytes: &mut Part) {
             2 => random.below(1024),
             _ => random.below(65_536),
         };
-        let number = (number as u16).to_le_bytes();
+        let number = number as u16;
         match random.below(9) {
-            0 => put(bytes, 0, number),
-            1 => put(bytes, OWNED_AT, number),
+            0 => put_u16(bytes, USED_AT, number),
+            1 => put_u16(bytes, OWNED_AT, number),
             2 => bytes[slot] = random.bits() as u8,
             3 => bytes[slot + 1] = random.bits() as u8,
-            4 => put(bytes, slot + 2, number),
+            4 => put_u16(bytes, slot + WORD_AT, number),
             5 => {
-                let level = u16::from_le_bytes([bytes[slot + 8], bytes[slot + 9]]);
+                let level = u16_at(bytes, slot + LEVEL_AT);
                 let level = level.wrapping_add(random.pick(&[1, u16::MAX]));
-                put(bytes, slot + 8, level.to_le_bytes());
+                put_u16(bytes, slot + LEVEL_AT, level);
             }
-            6 => put(bytes, slot + 8, number),
-            7 => put(bytes, owner_at(random.bits() as u8), number),
+            6 => put_u16(bytes, slot + LEVEL_AT, number),
+            7 => put_u16(bytes, owner_at(random.bits() as u8), number),
             _ => {
                 // The owner of one offset is made that of another.
                 let from = owner_at(random.bits() as u8);
                 let to = owner_at(random.bits() as u8);
-                let owner = [bytes[from], bytes[from + 1]];
-                put(bytes, to, owner);
+                let owner = u16_at(bytes, from);
+                put_u16(bytes, to, owner);
             }
         }
     }
-}
-
-fn put(bytes: &mut Part, at: usize, number: [u8; 2]) {
-    bytes[at..at + 2].copy_from_slice(&number);
 }
 
 /// A group that breaks one clause of soundness, in bytes, if any bytes encode

@@ -1,13 +1,13 @@
 //! Compares implementations of the inner functions and of the calls with the
 //! model on many random inputs.
 //!
-//! - [`subjects`]: what is compared: the baseline, and the proved code through
-//!   its static libraries
+//! - [`subjects`]: what is compared: the proved code through its static libraries,
+//!   and the baseline
 //! - [`inputs`]: batches, groups and bytes, good and damaged
 //! - [`batches`]: sorting and learning against the model
 //! - [`groups`]: soundness, find, insertion and compaction against the model
-//! - [`calls`]: the calls on a whole state, and [`beside`]: one made by the model
-//!   and by an implementation
+//! - [`calls`]: the calls on a whole state, [`beside`]: one made by the model and
+//!   by an implementation, and [`answers`]: how often each answer came
 //! - [`histories`]: lists of calls that start with a format
 //! - [`arguments`]: calls on arbitrary states, with arguments and lengths of all
 //!   kinds
@@ -18,6 +18,7 @@
 #![forbid(unsafe_code)]
 #![warn(missing_docs)]
 
+pub mod answers;
 pub mod arguments;
 pub mod batches;
 pub mod beside;

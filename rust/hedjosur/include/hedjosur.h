@@ -30,15 +30,15 @@ extern "C" {
 enum hedjosur_refusal {
     HEDJOSUR_ACCEPTED = 0,
     /* The state is too short for the device numbers, or one is outside its limits. */
-    HEDJOSUR_DEVICE_NUMBERS = 1,
+    HEDJOSUR_BAD_NUMBERS = 1,
     /* A lent slice hasn't the length that the device numbers give. */
-    HEDJOSUR_LENGTH = 2,
+    HEDJOSUR_BAD_LENGTH = 2,
     /* The state, or the group looked at, is not sound. */
     HEDJOSUR_NOT_SOUND = 3,
     /* A logical page is N or more, or there is no such group. */
     HEDJOSUR_OUT_OF_RANGE = 4,
     /* The batch is empty or longer than a block. */
-    HEDJOSUR_BATCH_LENGTH = 5,
+    HEDJOSUR_BAD_BATCH = 5,
     /* Too few blocks are free. */
     HEDJOSUR_NO_FREE_BLOCK = 6,
     /* The spare area doesn't name the logical page where the table expects it. */

@@ -94,9 +94,9 @@ pub struct Device<S, P> {
 impl<S: AsMut<[u8]>, P: AsMut<[u32]>> Device<S, P> {
     /// Formats the device, whatever its buffers held: no page is written.
     ///
-    /// Refuses [`DeviceNumbers`](Refusal::DeviceNumbers), then
-    /// [`Length`](Refusal::Length) where the state or the spare area hasn't exactly
-    /// the length that [`Numbers`] gives.
+    /// Refuses [`BadNumbers`](Refusal::BadNumbers), then
+    /// [`BadLength`](Refusal::BadLength) where the state or the spare area hasn't
+    /// exactly the length that [`Numbers`] gives.
     pub fn format(&mut self, numbers: Numbers) -> Result<(), Refusal> {
         let (state, spare) = self.lend();
         accepted(boundary::format(numbers, state, spare)).map(drop)
@@ -108,9 +108,9 @@ impl<S: AsMut<[u8]>, P: AsMut<[u32]>> Device<S, P> {
     /// entries stay. Of a logical page that arrived more than once, the last
     /// arrival counts.
     ///
-    /// Refuses, in this order, [`DeviceNumbers`](Refusal::DeviceNumbers),
-    /// [`Length`](Refusal::Length), [`NotSound`](Refusal::NotSound),
-    /// [`BatchLength`](Refusal::BatchLength), [`OutOfRange`](Refusal::OutOfRange),
+    /// Refuses, in this order, [`BadNumbers`](Refusal::BadNumbers),
+    /// [`BadLength`](Refusal::BadLength), [`NotSound`](Refusal::NotSound),
+    /// [`BadBatch`](Refusal::BadBatch), [`OutOfRange`](Refusal::OutOfRange),
     /// and [`NoFreeBlock`](Refusal::NoFreeBlock) where fewer than two blocks are
     /// free; one collection then makes room.
     ///
@@ -136,8 +136,8 @@ impl<S: AsMut<[u8]>, P: AsMut<[u32]>> Device<S, P> {
     /// has M entries and gets the blocks to erase after that. Entries that aren't
     /// needed stay.
     ///
-    /// Refuses, in this order, [`DeviceNumbers`](Refusal::DeviceNumbers),
-    /// [`Length`](Refusal::Length), [`NotSound`](Refusal::NotSound),
+    /// Refuses, in this order, [`BadNumbers`](Refusal::BadNumbers),
+    /// [`BadLength`](Refusal::BadLength), [`NotSound`](Refusal::NotSound),
     /// [`NothingToGain`](Refusal::NothingToGain) and
     /// [`NoFreeBlock`](Refusal::NoFreeBlock).
     pub fn collect(&mut self, plan: &mut [u32], erased: &mut [u32]) -> Result<Collected, Refusal> {
@@ -154,9 +154,9 @@ impl<S: AsMut<[u8]>, P> Device<S, P> {
     /// Compacts a group: drops what newer records hide. Answers how many records
     /// are left. No lookup finds another page after it.
     ///
-    /// Refuses, in this order, [`DeviceNumbers`](Refusal::DeviceNumbers),
-    /// [`Length`](Refusal::Length), [`OutOfRange`](Refusal::OutOfRange) where there
-    /// is no such group, and [`NotSound`](Refusal::NotSound) for that group.
+    /// Refuses, in this order, [`BadNumbers`](Refusal::BadNumbers),
+    /// [`BadLength`](Refusal::BadLength), [`OutOfRange`](Refusal::OutOfRange) where
+    /// there is no such group, and [`NotSound`](Refusal::NotSound) for that group.
     pub fn compact(&mut self, group: u32) -> Result<u32, Refusal> {
         let answer = boundary::compact(self.state.as_mut(), group);
         accepted(answer).map(|records| records as u32)
@@ -166,8 +166,8 @@ impl<S: AsMut<[u8]>, P> Device<S, P> {
 impl<S: AsRef<[u8]>, P: AsRef<[u32]>> Device<S, P> {
     /// Looks a logical page up.
     ///
-    /// Refuses, in this order, [`DeviceNumbers`](Refusal::DeviceNumbers),
-    /// [`Length`](Refusal::Length), [`OutOfRange`](Refusal::OutOfRange),
+    /// Refuses, in this order, [`BadNumbers`](Refusal::BadNumbers),
+    /// [`BadLength`](Refusal::BadLength), [`OutOfRange`](Refusal::OutOfRange),
     /// [`NotSound`](Refusal::NotSound) for the page's group, and
     /// [`NotNamed`](Refusal::NotNamed).
     pub fn lookup(&self, logical_page: u32) -> Result<Lookup, Refusal> {
@@ -178,10 +178,10 @@ impl<S: AsRef<[u8]>, P: AsRef<[u32]>> Device<S, P> {
     /// Whether two devices have as many logical pages and every lookup finds the
     /// same page, or 'not written', in both.
     ///
-    /// Refuses [`DeviceNumbers`](Refusal::DeviceNumbers),
-    /// [`Length`](Refusal::Length) and [`NotSound`](Refusal::NotSound) of this
-    /// device, then of the other, then [`NotNamed`](Refusal::NotNamed) where any
-    /// lookup does.
+    /// Refuses [`BadNumbers`](Refusal::BadNumbers),
+    /// [`BadLength`](Refusal::BadLength) and [`NotSound`](Refusal::NotSound) of
+    /// this device, then of the other, then [`NotNamed`](Refusal::NotNamed) where
+    /// any lookup does.
     ///
     /// ```
     /// # use hedjosur::{Device, Numbers};
@@ -212,8 +212,8 @@ impl<S: AsRef<[u8]>, P> Device<S, P> {
     /// Lists a group's records, levels downward, each ascending, from a buffer of
     /// [`LISTING_LEN`](crate::LISTING_LEN) bytes that is lent for it.
     ///
-    /// Refuses as [`compact`](Device::compact) does, [`Length`](Refusal::Length)
-    /// for the buffer too.
+    /// Refuses as [`compact`](Device::compact) does,
+    /// [`BadLength`](Refusal::BadLength) for the buffer too.
     ///
     /// ```
     /// # use hedjosur::{Device, Numbers};

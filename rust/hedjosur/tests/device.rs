@@ -92,8 +92,10 @@ fn every_refusal() {
         logical_pages: 5,
         ..SMALLEST
     };
-    let refused = |refusal: Result<(), Refusal>, number: u32, message: &str| {
+    let mut met = Vec::new();
+    let mut refused = |refusal: Result<(), Refusal>, number: u32, message: &str| {
         let refusal = refusal.expect_err("refused");
+        met.push(refusal);
         assert_eq!(refusal.number(), number);
         assert_eq!(refusal.to_string(), format!("refused {number}: {message}"));
     };
@@ -145,6 +147,8 @@ fn every_refusal() {
         3,
         "the table's bytes are damaged (not sound)",
     );
+    met.sort();
+    assert_eq!(met, Refusal::ALL);
 }
 
 /// A refusal goes where errors go.

@@ -154,7 +154,7 @@ fn limits() -> Case {
     }
 }
 
-const REFUSED_1: Answer = Answer::Refused(Refusal::DeviceNumbers);
+const REFUSED_1: Answer = Answer::Refused(Refusal::BadNumbers);
 
 /// 'Batch 7, 7: one page, plan entry 1.'
 fn repeats() -> Case {

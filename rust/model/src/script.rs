@@ -138,7 +138,7 @@ impl Program {
             return vec![BAD_LINE.to_string()];
         };
         let answer = match line {
-            Line::Format(numbers) if !takes(numbers) => Answer::Refused(Refusal::DeviceNumbers),
+            Line::Format(numbers) if !takes(numbers) => Answer::Refused(Refusal::BadNumbers),
             line => self.call(&line),
         };
         match answer {
@@ -186,7 +186,7 @@ impl Program {
     /// Formats new slices of the right lengths. A refused format leaves the state
     /// as it was.
     fn format(&mut self, numbers: [u32; 4]) -> Result<(), Refusal> {
-        let device = Device::new(numbers).ok_or(Refusal::DeviceNumbers)?;
+        let device = Device::new(numbers).ok_or(Refusal::BadNumbers)?;
         let mut lent = Lent::fitting(&device);
         let mut area = vec![0; device.spare_length()];
         ops::format(&mut lent, &mut area, numbers)?;
@@ -196,7 +196,7 @@ impl Program {
 }
 
 /// Whether the program takes a device of these numbers.
-fn takes(numbers: [u32; 4]) -> bool {
+pub fn takes(numbers: [u32; 4]) -> bool {
     Device::new(numbers)
         .is_some_and(|device| device.logical_pages <= 1024 && device.spare_length() <= 8192)
 }

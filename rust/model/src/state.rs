@@ -48,10 +48,10 @@ impl Lent {
     /// outside limits, and 2 when a lent slice has a wrong length'.
     pub fn open(&self) -> Result<(Device, &State), Refusal> {
         let Lent::Held(state) = self else {
-            return Err(Refusal::DeviceNumbers);
+            return Err(Refusal::BadNumbers);
         };
-        let device = Device::new(state.numbers).ok_or(Refusal::DeviceNumbers)?;
-        require(state.fits(&device), Refusal::Length)?;
+        let device = Device::new(state.numbers).ok_or(Refusal::BadNumbers)?;
+        require(state.fits(&device), Refusal::BadLength)?;
         Ok((device, state))
     }
 
@@ -60,7 +60,7 @@ impl Lent {
         let (device, _) = self.open()?;
         match self {
             Lent::Held(state) => Ok((device, state)),
-            Lent::Short => Err(Refusal::DeviceNumbers),
+            Lent::Short => Err(Refusal::BadNumbers),
         }
     }
 }

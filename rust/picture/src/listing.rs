@@ -4,31 +4,12 @@
 use std::error;
 use std::fmt::{self, Display, Formatter};
 
-/// The head line of a listing.
-pub const HEAD: &str = " LEVEL START  SPAN  WORD INTERCEPT";
-
-/// 'A group holds 512 records.'
-pub const GROUP_RECORDS: usize = 512;
+use hedjosur_model::levels::GROUP_RECORDS;
+use hedjosur_model::record::Kind;
+use hedjosur_model::script::HEAD;
 
 /// The columns' widths.
 const WIDTHS: [usize; 5] = [6, 6, 6, 6, 10];
-
-/// A record's kind, by its word.
-#[derive(Clone, Copy, Debug, PartialEq, Eq)]
-pub enum Kind {
-    /// Word 0.
-    Single,
-    /// Word 2d.
-    Accurate {
-        /// The stride d, 1 to 255.
-        stride: u8,
-    },
-    /// Word 2a + 1.
-    Approximate {
-        /// The slope a in 256ths, 0 to 256.
-        slope: u16,
-    },
-}
 
 /// A record as a listing shows it. Which offsets an approximate one owns is not
 /// shown there.
@@ -219,17 +200,13 @@ fn read_record(line: &str) -> Result<(usize, Record), Fault> {
 
 /// The kind that a word says, if the span suits it.
 fn read_kind(word: u32, span: u32) -> Result<Kind, Fault> {
-    match (word, word % 2, word / 2) {
-        (0, ..) if span == 0 => Ok(Kind::Single),
-        (0, ..) => Err(Fault::SingleSpan(span)),
-        (_, 0, stride @ 1..=255) if span.is_multiple_of(stride) => Ok(Kind::Accurate {
-            stride: stride as u8,
-        }),
-        (_, 0, stride @ 1..=255) => Err(Fault::Stride(span, stride as u8)),
-        (_, 1, slope @ 0..=256) => Ok(Kind::Approximate {
-            slope: slope as u16,
-        }),
-        _ => Err(Fault::Word(word)),
+    let kind = u16::try_from(word).ok().and_then(Kind::of);
+    match kind.ok_or(Fault::Word(word))? {
+        Kind::Single if span != 0 => Err(Fault::SingleSpan(span)),
+        Kind::Accurate { stride } if !span.is_multiple_of(stride.into()) => {
+            Err(Fault::Stride(span, stride))
+        }
+        kind => Ok(kind),
     }
 }
 

@@ -10,7 +10,9 @@
 
 use std::fmt::Write;
 
-use crate::listing::{Group, Kind, Record};
+use hedjosur_model::record::Kind;
+
+use crate::listing::{Group, Record};
 
 /// Columns.
 const OFFSETS: u32 = 256;

@@ -4,44 +4,8 @@
 //! is borrowed for the time of the call, `&mut` where the function writes. What
 //! else a function requires of its arguments, the wrapper tests before the call.
 
-use crate::{Compact, Find, Found, Insert, Learn, Sort, Sound, GROUP_BYTES, OUTSIDE};
+use crate::{Found, GROUP_BYTES, OUTSIDE};
 
-/// Sorting a batch.
-pub const SORT: Option<Sort> = if cfg!(probe_sort) { Some(sort) } else { None };
-
-/// Learning a sorted batch.
-pub const LEARN: Option<Learn> = if cfg!(probe_learn) { Some(learn) } else { None };
-
-/// A group's soundness.
-pub const SOUND: Option<Sound> = if cfg!(probe_group_sound) {
-    Some(sound)
-} else {
-    None
-};
-
-/// Finding an offset in a group.
-pub const FIND: Option<Find> = if cfg!(probe_group_find) {
-    Some(find)
-} else {
-    None
-};
-
-/// Inserting a record into a group.
-pub const INSERT: Option<Insert> = if cfg!(probe_group_insert) {
-    Some(insert)
-} else {
-    None
-};
-
-/// Compacting a group.
-pub const COMPACT: Option<Compact> = if cfg!(probe_group_compact) {
-    Some(compact)
-} else {
-    None
-};
-
-// A declared function is linked only where its wrapper is used, and that is where
-// the library has it.
 extern "C" {
     fn probe_sort(
         batch: *const u32,
@@ -79,7 +43,8 @@ extern "C" {
     fn probe_group_compact(part: *mut u8, part_length: usize) -> u64;
 }
 
-fn sort(batch: &[u32], pages: &mut [u32], sources: &mut [u32]) -> usize {
+/// Sorts a batch; see `probe_sort`.
+pub fn sort(batch: &[u32], pages: &mut [u32], sources: &mut [u32]) -> usize {
     assert!(batch.len() <= 256, "a batch has at most 256 pages");
     assert!(pages.len() >= batch.len(), "the list of pages is too short");
     assert!(
@@ -104,7 +69,8 @@ fn sort(batch: &[u32], pages: &mut [u32], sources: &mut [u32]) -> usize {
     accepted(answer) as usize
 }
 
-fn learn(written: &[u32], first: u32, g: u32, out: &mut [u8]) -> usize {
+/// Learns a sorted batch; see `probe_learn`.
+pub fn learn(written: &[u32], first: u32, g: u32, out: &mut [u8]) -> usize {
     assert!(written.len() <= 256, "a batch has at most 256 pages");
     assert!(
         out.len() >= 8 * written.len(),
@@ -132,7 +98,8 @@ fn learn(written: &[u32], first: u32, g: u32, out: &mut [u8]) -> usize {
     accepted(answer) as usize
 }
 
-fn sound(part: &[u8; GROUP_BYTES], n: u32, k: u32) -> bool {
+/// Whether a group's bytes are sound; see `probe_group_sound`.
+pub fn sound(part: &[u8; GROUP_BYTES], n: u32, k: u32) -> bool {
     // SAFETY: a borrowed slice.
     let answer = unsafe { probe_group_sound(part.as_ptr(), part.len(), n, k) };
     match accepted(answer) {
@@ -142,13 +109,15 @@ fn sound(part: &[u8; GROUP_BYTES], n: u32, k: u32) -> bool {
     }
 }
 
-fn find(part: &[u8; GROUP_BYTES], offset: u8) -> Found {
+/// Finds an offset; see `probe_group_find`.
+pub fn find(part: &[u8; GROUP_BYTES], offset: u8) -> Found {
     // SAFETY: a borrowed slice.
     let answer = unsafe { probe_group_find(part.as_ptr(), part.len(), offset.into()) };
     Found::unpacked(accepted(answer)).expect("a packed answer")
 }
 
-fn insert(part: &mut [u8; GROUP_BYTES], record: &[u8; 8], mask: &[u8; 256]) -> usize {
+/// Inserts a record; see `probe_group_insert`.
+pub fn insert(part: &mut [u8; GROUP_BYTES], record: &[u8; 8], mask: &[u8; 256]) -> usize {
     // SAFETY: three borrowed slices, the first for writing.
     let answer = unsafe {
         probe_group_insert(
@@ -163,7 +132,8 @@ fn insert(part: &mut [u8; GROUP_BYTES], record: &[u8; 8], mask: &[u8; 256]) -> u
     accepted(answer) as usize
 }
 
-fn compact(part: &mut [u8; GROUP_BYTES]) -> usize {
+/// Compacts a group; see `probe_group_compact`.
+pub fn compact(part: &mut [u8; GROUP_BYTES]) -> usize {
     // SAFETY: a borrowed slice, for writing.
     let answer = unsafe { probe_group_compact(part.as_mut_ptr(), part.len()) };
     accepted(answer) as usize

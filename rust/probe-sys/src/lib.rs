@@ -16,34 +16,22 @@
 //! | `probe_group_insert` | `part: &mut [u8], record: &[u8], mask: &[u8]` | sound, fewer than 512 records; 8 bytes, a record that a sound group may have; 256 bytes, 1 at the record's members and 0 elsewhere | records after |
 //! | `probe_group_compact` | `part: &mut [u8]` | sound | records left |
 //!
-//! Each wrapper is a constant: `Some` function where the library has it, `None`
-//! where it doesn't or where there is no library. A wrapper checks the lengths
-//! and panics where they are wrong or where the function answers [`OUTSIDE`].
+//! A wrapper panics where its arguments don't meet the condition, also where the
+//! function answers [`OUTSIDE`].
 
+#![deny(unsafe_code)]
 #![warn(missing_docs)]
 
+#[allow(unsafe_code)]
 mod boundary;
 
-pub use boundary::{COMPACT, FIND, INSERT, LEARN, SORT, SOUND};
+pub use boundary::{compact, find, insert, learn, sort, sound};
 
 /// The answer to arguments that don't meet a function's condition.
 pub const OUTSIDE: u64 = u64::MAX;
 
 /// The bytes of a group.
 pub const GROUP_BYTES: usize = 5636;
-
-/// Sorts a batch; see `probe_sort`.
-pub type Sort = fn(batch: &[u32], pages: &mut [u32], sources: &mut [u32]) -> usize;
-/// Learns a sorted batch; see `probe_learn`.
-pub type Learn = fn(written: &[u32], first: u32, g: u32, out: &mut [u8]) -> usize;
-/// Whether a group's bytes are sound; see `probe_group_sound`.
-pub type Sound = fn(part: &[u8; GROUP_BYTES], n: u32, k: u32) -> bool;
-/// Finds an offset; see `probe_group_find`.
-pub type Find = fn(part: &[u8; GROUP_BYTES], offset: u8) -> Found;
-/// Inserts a record; see `probe_group_insert`.
-pub type Insert = fn(part: &mut [u8; GROUP_BYTES], record: &[u8; 8], mask: &[u8; 256]) -> usize;
-/// Compacts a group; see `probe_group_compact`.
-pub type Compact = fn(part: &mut [u8; GROUP_BYTES]) -> usize;
 
 /// What a group says of an offset.
 #[derive(Clone, Copy, Debug, PartialEq, Eq)]

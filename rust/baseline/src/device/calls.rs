@@ -1,22 +1,26 @@
 //! Format, flush, lookup, compaction, agreement and listing.
 
+use hedjosur_layout::{state_bytes, Part, HEAD_BYTES, SLOTS_AT, SLOT_BYTES};
 use hedjosur_model::device::{group_of, offset_of, Device};
+use hedjosur_model::levels::GROUP_RECORDS;
 use hedjosur_model::ops::{Flushed, Lookup, Refusal};
 use hedjosur_model::spare::NOBODY;
 
 use super::spare;
 use super::state::{free_block, is_sound, open, regions, regions_mut, require};
-use crate::group::{self, Part};
-use crate::layout::{state_bytes, HEAD_BYTES, LISTING_BYTES, SLOTS_AT, SLOT_BYTES};
+use crate::group;
 use crate::learn::{runs, Run};
 use crate::offsets::Offsets;
 use crate::sort::{sort_batch, BATCH};
 
+/// A listing, which has the slots of a group.
+const LISTING_BYTES: usize = GROUP_RECORDS * SLOT_BYTES;
+
 /// Formats a device of M, B, N and g.
 pub fn format(state: &mut [u8], area: &mut [u32], numbers: [u32; 4]) -> Result<(), Refusal> {
-    let device = Device::new(numbers).ok_or(Refusal::DeviceNumbers)?;
-    require(state.len() == state_bytes(&device), Refusal::Length)?;
-    require(area.len() == device.spare_length(), Refusal::Length)?;
+    let device = Device::new(numbers).ok_or(Refusal::BadNumbers)?;
+    require(state.len() == state_bytes(&device), Refusal::BadLength)?;
+    require(area.len() == device.spare_length(), Refusal::BadLength)?;
     let (head, _) = state[..HEAD_BYTES].as_chunks_mut::<4>();
     for (bytes, number) in head.iter_mut().zip(numbers) {
         *bytes = number.to_le_bytes();
@@ -35,13 +39,10 @@ pub fn flush(
 ) -> Result<Flushed, Refusal> {
     let device = open(state)?;
     let block_pages = device.block_pages as usize;
-    require(area.len() == device.spare_length(), Refusal::Length)?;
-    require(plan.len() == block_pages, Refusal::Length)?;
+    require(area.len() == device.spare_length(), Refusal::BadLength)?;
+    require(plan.len() == block_pages, Refusal::BadLength)?;
     require(is_sound(&device, state), Refusal::NotSound)?;
-    require(
-        (1..=block_pages).contains(&batch.len()),
-        Refusal::BatchLength,
-    )?;
+    require((1..=block_pages).contains(&batch.len()), Refusal::BadBatch)?;
     let all_exist = batch.iter().all(|&page| page < device.logical_pages);
     require(all_exist, Refusal::OutOfRange)?;
     let (counts, _) = regions(&device, state);
@@ -91,7 +92,7 @@ pub(super) fn store(
 /// Looks a logical page up.
 pub fn lookup(state: &[u8], area: &[u32], logical_page: u32) -> Result<Lookup, Refusal> {
     let device = open(state)?;
-    require(area.len() == device.spare_length(), Refusal::Length)?;
+    require(area.len() == device.spare_length(), Refusal::BadLength)?;
     require(logical_page < device.logical_pages, Refusal::OutOfRange)?;
     let (_, groups) = regions(&device, state);
     let number = group_of(logical_page);
@@ -141,7 +142,7 @@ pub fn compact(state: &mut [u8], number: u32) -> Result<usize, Refusal> {
 /// how many.
 pub fn list(state: &[u8], number: u32, out: &mut [u8]) -> Result<usize, Refusal> {
     let device = open(state)?;
-    require(out.len() == LISTING_BYTES, Refusal::Length)?;
+    require(out.len() == LISTING_BYTES, Refusal::BadLength)?;
     let (_, groups) = regions(&device, state);
     let part = groups.get(number as usize).ok_or(Refusal::OutOfRange)?;
     let sound = group::sound(part, device.logical_pages, number);
@@ -176,7 +177,7 @@ pub fn agree(one: (&[u8], &[u32]), other: (&[u8], &[u32])) -> Result<bool, Refus
 /// The device of a state that refuses neither 1, 2 nor 3.
 fn whole((state, area): (&[u8], &[u32])) -> Result<Device, Refusal> {
     let device = open(state)?;
-    require(area.len() == device.spare_length(), Refusal::Length)?;
+    require(area.len() == device.spare_length(), Refusal::BadLength)?;
     require(is_sound(&device, state), Refusal::NotSound)?;
     Ok(device)
 }

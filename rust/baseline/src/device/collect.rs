@@ -20,9 +20,12 @@ pub fn collect(
     erased: &mut [u32],
 ) -> Result<Collected, Refusal> {
     let device = open(state)?;
-    require(area.len() == device.spare_length(), Refusal::Length)?;
-    require(plan.len() == device.block_pages as usize, Refusal::Length)?;
-    require(erased.len() == device.blocks as usize, Refusal::Length)?;
+    require(area.len() == device.spare_length(), Refusal::BadLength)?;
+    require(
+        plan.len() == device.block_pages as usize,
+        Refusal::BadLength,
+    )?;
+    require(erased.len() == device.blocks as usize, Refusal::BadLength)?;
     require(is_sound(&device, state), Refusal::NotSound)?;
     let mut order = [Used::default(); BLOCKS];
     let (taken, total) = taken_blocks(&device, state, area, &mut order);

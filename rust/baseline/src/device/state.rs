@@ -1,10 +1,10 @@
 //! The regions of a state.
 
+use hedjosur_layout::{groups_at, state_bytes, Part, COUNT_BYTES, GROUP_BYTES, HEAD_BYTES};
 use hedjosur_model::device::Device;
 use hedjosur_model::ops::Refusal;
 
-use crate::group::{self, Part};
-use crate::layout::{groups_at, state_bytes, COUNT_BYTES, GROUP_BYTES, HEAD_BYTES};
+use crate::group;
 
 /// A block's count of written pages, in bytes.
 pub(super) type Count = [u8; COUNT_BYTES];
@@ -24,10 +24,10 @@ pub(super) fn require(condition: bool, refusal: Refusal) -> Result<(), Refusal> 
 /// The device of a state, or refusal 1 or 2.
 pub(super) fn open(state: &[u8]) -> Result<Device, Refusal> {
     let head = state.first_chunk::<HEAD_BYTES>();
-    let (numbers, _) = head.ok_or(Refusal::DeviceNumbers)?.as_chunks::<4>();
+    let (numbers, _) = head.ok_or(Refusal::BadNumbers)?.as_chunks::<4>();
     let numbers = std::array::from_fn(|i| u32::from_le_bytes(numbers[i]));
-    let device = Device::new(numbers).ok_or(Refusal::DeviceNumbers)?;
-    require(state.len() == state_bytes(&device), Refusal::Length)?;
+    let device = Device::new(numbers).ok_or(Refusal::BadNumbers)?;
+    require(state.len() == state_bytes(&device), Refusal::BadLength)?;
     Ok(device)
 }
 

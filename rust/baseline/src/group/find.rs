@@ -1,6 +1,8 @@
 //! Where an offset is found.
 
-use super::part::{is_owned, level, name, owners, record, records, slots, Part};
+use hedjosur_layout::Part;
+
+use super::part::{is_owned, level, name, owners, record, records, slots};
 use crate::offsets::Offsets;
 use crate::record::Record;
 

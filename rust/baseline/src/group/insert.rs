@@ -1,12 +1,13 @@
 //! Inserting a record at level 0, and taking in a batch's records.
 
+use hedjosur_layout::Part;
 use hedjosur_model::levels::GROUP_RECORDS;
 
 use super::compact::compact;
 use super::members::{members, without};
 use super::part::{
     is_owned, level, name, owners, owners_mut, record, records, set_level, set_owned, set_owners,
-    set_records, slot, slots, slots_mut, Part, Slot,
+    set_records, slot, slots, slots_mut, Slot,
 };
 use crate::offsets::Offsets;
 use crate::record::Record;

@@ -1,6 +1,8 @@
 //! The members of a group's records, and what is left of a record without some.
 
-use super::part::{is_owned, name, owners, set_owned, set_owners, Part};
+use hedjosur_layout::Part;
+
+use super::part::{is_owned, name, owners, set_owned, set_owners};
 use crate::offsets::Offsets;
 use crate::record::Record;
 

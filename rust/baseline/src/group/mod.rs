@@ -11,5 +11,5 @@ mod sound;
 pub use compact::compact;
 pub use find::{find, Found};
 pub use insert::{insert, take};
-pub use part::{records, Part};
+pub use part::records;
 pub use sound::sound;

@@ -1,11 +1,11 @@
 //! The places in a group's bytes.
 
-use crate::layout::{GROUP_BYTES, OWNED_AT, OWNERS_AT, OWNER_BYTES, SLOTS_AT, SLOT_BYTES};
+use hedjosur_layout::{
+    Part, LEVEL_AT, OWNED_AT, OWNERS_AT, OWNER_BYTES, SLOTS_AT, SLOT_BYTES, USED_AT,
+};
+
 use crate::offsets::Offsets;
 use crate::record::Record;
-
-/// A group's bytes.
-pub type Part = [u8; GROUP_BYTES];
 
 /// A slot's bytes: a record and its level. Used slots stand in listing order.
 pub(super) type Slot = [u8; SLOT_BYTES];
@@ -16,12 +16,12 @@ type Owner = [u8; OWNER_BYTES];
 /// How many records the group holds.
 #[inline]
 pub fn records(part: &Part) -> usize {
-    usize::from(u16::from_le_bytes([part[0], part[1]]))
+    usize::from(u16::from_le_bytes([part[USED_AT], part[USED_AT + 1]]))
 }
 
 #[inline]
 pub(super) fn set_records(part: &mut Part, count: usize) {
-    part[..2].copy_from_slice(&(count as u16).to_le_bytes());
+    [part[USED_AT], part[USED_AT + 1]] = (count as u16).to_le_bytes();
 }
 
 /// Whether any offset is owned; otherwise the owners' bytes mean nothing.
@@ -86,10 +86,10 @@ pub(super) fn record(slot: &Slot) -> Record {
 
 #[inline]
 pub(super) fn level(slot: &Slot) -> u16 {
-    u16::from_le_bytes([slot[8], slot[9]])
+    u16::from_le_bytes([slot[LEVEL_AT], slot[LEVEL_AT + 1]])
 }
 
 #[inline]
 pub(super) fn set_level(slot: &mut Slot, level: u16) {
-    [slot[8], slot[9]] = level.to_le_bytes();
+    [slot[LEVEL_AT], slot[LEVEL_AT + 1]] = level.to_le_bytes();
 }

@@ -1,8 +1,9 @@
 //! Whether a group's bytes are sound.
 
+use hedjosur_layout::Part;
 use hedjosur_model::levels::GROUP_RECORDS;
 
-use super::part::{is_owned, level, name, owners, record, records, slots, Part};
+use super::part::{is_owned, level, name, owners, record, records, slots};
 use crate::offsets::Offsets;
 use crate::record::Record;
 

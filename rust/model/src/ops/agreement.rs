@@ -25,7 +25,7 @@ struct Whole<'a> {
 /// Refuses 1, 2 and 3 for one state with its spare area.
 fn whole<'a>((lent, area): (&'a Lent, &'a [u32])) -> Result<Whole<'a>, Refusal> {
     let (device, state) = lent.open()?;
-    require(area.len() == device.spare_length(), Refusal::Length)?;
+    require(area.len() == device.spare_length(), Refusal::BadLength)?;
     require(state_is_sound(&device, state), Refusal::NotSound)?;
     Ok(Whole {
         device,

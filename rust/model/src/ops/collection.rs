@@ -33,9 +33,12 @@ pub fn collection(
     erased: &mut [u32],
 ) -> Result<Collected, Refusal> {
     let (device, state) = lent.open_mut()?;
-    require(area.len() == device.spare_length(), Refusal::Length)?;
-    require(plan.len() == device.block_pages as usize, Refusal::Length)?;
-    require(erased.len() == device.blocks as usize, Refusal::Length)?;
+    require(area.len() == device.spare_length(), Refusal::BadLength)?;
+    require(
+        plan.len() == device.block_pages as usize,
+        Refusal::BadLength,
+    )?;
+    require(erased.len() == device.blocks as usize, Refusal::BadLength)?;
     require(state_is_sound(&device, state), Refusal::NotSound)?;
     let taken = taken_blocks(&device, state, area);
     // Each logical page to move, ascending, with the page it is on.

@@ -26,11 +26,14 @@ pub fn flush(
     plan: &mut [u32],
 ) -> Result<Flushed, Refusal> {
     let (device, state) = lent.open_mut()?;
-    require(area.len() == device.spare_length(), Refusal::Length)?;
-    require(plan.len() == device.block_pages as usize, Refusal::Length)?;
+    require(area.len() == device.spare_length(), Refusal::BadLength)?;
+    require(
+        plan.len() == device.block_pages as usize,
+        Refusal::BadLength,
+    )?;
     require(state_is_sound(&device, state), Refusal::NotSound)?;
     let longest = device.block_pages as usize;
-    require((1..=longest).contains(&batch.len()), Refusal::BatchLength)?;
+    require((1..=longest).contains(&batch.len()), Refusal::BadBatch)?;
     let exists = |&logical_page: &u32| logical_page < device.logical_pages;
     require(batch.iter().all(exists), Refusal::OutOfRange)?;
     let free = state.free_blocks();

@@ -11,12 +11,12 @@ use crate::state::{Lent, State};
 /// outside its limits, then 2 when state or spare area hasn't exactly the length
 /// these numbers give.'
 pub fn format(lent: &mut Lent, area: &mut [u32], numbers: [u32; 4]) -> Result<(), Refusal> {
-    let device = Device::new(numbers).ok_or(Refusal::DeviceNumbers)?;
+    let device = Device::new(numbers).ok_or(Refusal::BadNumbers)?;
     let state = match lent {
         Lent::Held(state) if state.fits(&device) => state,
-        _ => return Err(Refusal::Length),
+        _ => return Err(Refusal::BadLength),
     };
-    require(area.len() == device.spare_length(), Refusal::Length)?;
+    require(area.len() == device.spare_length(), Refusal::BadLength)?;
 
     *state = State {
         numbers,

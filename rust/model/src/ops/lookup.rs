@@ -52,7 +52,7 @@ impl Lookup {
 /// predicted page doesn't exist or no entry names the logical page.'
 pub fn lookup(lent: &Lent, area: &[u32], logical_page: u32) -> Result<Lookup, Refusal> {
     let (device, state) = lent.open()?;
-    require(area.len() == device.spare_length(), Refusal::Length)?;
+    require(area.len() == device.spare_length(), Refusal::BadLength)?;
     require(logical_page < device.logical_pages, Refusal::OutOfRange)?;
     let number = group_of(logical_page);
     let group = &state.groups[number];

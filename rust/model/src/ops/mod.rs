@@ -8,6 +8,7 @@ mod flush;
 mod format;
 mod list;
 mod lookup;
+mod refusal;
 
 pub use agreement::agreement;
 pub use collection::{collection, Collected};
@@ -16,39 +17,12 @@ pub use flush::{flush, Flushed};
 pub use format::format;
 pub use list::list;
 pub use lookup::{lookup, Lookup};
+pub use refusal::Refusal;
 
 use crate::device::Device;
 use crate::learn::learn;
 use crate::spare;
 use crate::state::State;
-
-/// Why a call is refused.
-#[derive(Clone, Copy, Debug, PartialEq, Eq, PartialOrd, Ord)]
-pub enum Refusal {
-    /// 1: no device numbers, or some outside their limits.
-    DeviceNumbers = 1,
-    /// 2: a lent slice has a wrong length.
-    Length = 2,
-    /// 3: the state, or the group looked at, is not sound.
-    NotSound = 3,
-    /// 4: no such logical page, or no such group.
-    OutOfRange = 4,
-    /// 5: the batch is empty or longer than B.
-    BatchLength = 5,
-    /// 6: too few free blocks.
-    NoFreeBlock = 6,
-    /// 7: the predicted page doesn't exist or doesn't name the logical page.
-    NotNamed = 7,
-    /// 8: nothing to gain from a collection.
-    NothingToGain = 8,
-}
-
-impl Refusal {
-    /// The number of the refusal.
-    pub fn number(self) -> u32 {
-        self as u32
-    }
-}
 
 /// Goes on if the condition holds, else refuses.
 pub(crate) fn require(condition: bool, refusal: Refusal) -> Result<(), Refusal> {

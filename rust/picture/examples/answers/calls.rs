@@ -1,67 +1,47 @@
 //! The answers of a script's lookups and collections, by the model.
 
-use hedjosur_model::device::Device;
-use hedjosur_model::ops::{self, Lookup, Refusal};
-use hedjosur_model::script::{read_line, Line};
-use hedjosur_model::spare::NOBODY;
-use hedjosur_model::state::Lent;
+use hedjosur_model::ops::Lookup;
+use hedjosur_model::script::{read_line, takes, Answer, Line, Program};
 
 /// The lines for a script. Lines that are no calls are left out.
 pub fn answers(script: &[u8]) -> String {
-    let mut lent = Lent::Short;
-    let mut area = Vec::new();
+    let mut program = Program::default();
     script
         .split(|&byte| byte == b'\n')
         .filter_map(read_line)
-        .filter_map(|line| answer(&mut lent, &mut area, line))
+        .filter_map(|line| answer(&mut program, &line))
         .map(|line| line + "\n")
         .collect()
 }
 
-/// Makes one call; the line of a lookup or a collection.
-fn answer(lent: &mut Lent, area: &mut Vec<u32>, line: Line) -> Option<String> {
-    let [blocks, block_pages] = match lent.open() {
-        Ok((device, _)) => [device.blocks, device.block_pages],
-        Err(_) => [0, 0],
+/// Makes one call; the line of a lookup or a collection. A format of a device that
+/// the listing program doesn't take changes nothing.
+fn answer(program: &mut Program, line: &Line) -> Option<String> {
+    if matches!(line, Line::Format(numbers) if !takes(*numbers)) {
+        return None;
+    }
+    let answer = program.call(line);
+    let call = match line {
+        Line::Lookup(page) => format!("lookup {page}"),
+        Line::Collection => "collection".to_string(),
+        _ => return None,
     };
-    let mut plan = vec![NOBODY; block_pages as usize];
-    let mut erased = vec![NOBODY; blocks as usize];
-    match line {
-        Line::Format(numbers) => {
-            // The listing program's own limits.
-            let taken = Device::new(numbers)
-                .filter(|device| device.logical_pages <= 1024 && device.spare_length() <= 8192);
-            if let Some(device) = taken {
-                *lent = Lent::fitting(&device);
-                *area = vec![NOBODY; device.spare_length()];
-                ops::format(lent, area, numbers).expect("numbers and lengths are right");
-            }
-            None
-        }
-        Line::Flush(batch) => {
-            // A refused flush changes nothing, and the listing program tells.
-            let _ = ops::flush(lent, area, &batch, &mut plan);
-            None
-        }
-        Line::Lookup(page) => Some(match ops::lookup(lent, area, page) {
-            Ok(found) => format!("lookup {page}: {}", lookup_words(found)),
-            Err(refusal) => format!("lookup {page}: {}", refusal_words(refusal)),
-        }),
-        Line::Collection => Some(match ops::collection(lent, area, &mut plan, &mut erased) {
-            Ok(done) => format!(
-                "collection: {} pages from page {}, copied from {}; erased {}",
-                done.count,
-                done.first,
-                numbers(&plan[..done.count as usize]),
-                numbers(&erased[..done.erased as usize])
-            ),
-            Err(refusal) => format!("collection: {}", refusal_words(refusal)),
-        }),
-        Line::Compaction(group) => {
-            let _ = ops::compaction(lent, group);
-            None
-        }
-        Line::List(_) => None,
+    Some(format!("{call}: {}", words(&answer)))
+}
+
+/// What a lookup or a collection answers, in words.
+fn words(answer: &Answer) -> String {
+    match answer {
+        Answer::Refused(refusal) => format!("refused {}", refusal.number()),
+        Answer::Lookup(found) => lookup_words(*found),
+        Answer::Collected(done, [plan, erased]) => format!(
+            "{} pages from page {}, copied from {}; erased {}",
+            done.count,
+            done.first,
+            numbers(plan),
+            numbers(erased)
+        ),
+        other => panic!("neither a lookup's answer nor a collection's: {other:?}"),
     }
 }
 
@@ -78,10 +58,6 @@ fn lookup_words(answer: Lookup) -> String {
         } => format!("page {page}, predicted {predicted}, {}", looked(levels)),
         Lookup::NotWritten { levels } => format!("not written, {}", looked(levels)),
     }
-}
-
-fn refusal_words(refusal: Refusal) -> String {
-    format!("refused {}", refusal.number())
 }
 
 fn numbers(list: &[u32]) -> String {

@@ -1,43 +1,15 @@
-//! The bytes of docs/LAYOUT.md: their places, and groups and states of the model
-//! written to them and read from them, for tests.
+//! A group.
 
 use std::collections::{BTreeMap, BTreeSet};
 
-use hedjosur_model::device::Device;
 use hedjosur_model::levels::{Group, GROUP_RECORDS};
 use hedjosur_model::record::Record;
-use hedjosur_model::state::{Lent, State};
 
-use crate::record::{self, RECORD_BYTES};
-
-/// M, B, N and g.
-pub const HEAD_BYTES: usize = 16;
-/// A block's count.
-pub const COUNT_BYTES: usize = 2;
-/// A slot: a record and its level.
-pub const SLOT_BYTES: usize = 10;
-/// A listing, which has the slots of a group.
-pub const LISTING_BYTES: usize = GROUP_RECORDS * SLOT_BYTES;
-/// An owner: 0, or its record's start plus 1.
-pub const OWNER_BYTES: usize = 2;
-/// Where a group's word 'owned' is; the number of used slots is at 0.
-pub const OWNED_AT: usize = 2;
-/// Where a group's slots begin.
-pub const SLOTS_AT: usize = 4;
-/// Where a group's owners begin.
-pub const OWNERS_AT: usize = SLOTS_AT + LISTING_BYTES;
-/// A group.
-pub const GROUP_BYTES: usize = OWNERS_AT + 256 * OWNER_BYTES;
-
-/// The length of a device's state.
-pub fn state_bytes(device: &Device) -> usize {
-    groups_at(device) + GROUP_BYTES * device.groups()
-}
-
-/// Where a device's groups begin.
-pub fn groups_at(device: &Device) -> usize {
-    HEAD_BYTES + COUNT_BYTES * device.blocks as usize
-}
+use crate::places::{
+    owner_at, put_u16, u16_at, GROUP_BYTES, LEVEL_AT, OWNED_AT, OWNERS_AT, RECORD_BYTES, SLOTS_AT,
+    SLOT_BYTES, USED_AT,
+};
+use crate::record::{decode_record, encode_record};
 
 /// Writes a group over [`GROUP_BYTES`] bytes; those that no reading looks at
 /// stay. False, and nothing is written, where no bytes encode the group: it has
@@ -51,18 +23,17 @@ pub fn encode_group(group: &Group, bytes: &mut [u8]) -> bool {
     for (record, level) in placed.take(GROUP_RECORDS) {
         let slot = &mut encoded[SLOTS_AT + SLOT_BYTES * usize::from(used)..][..SLOT_BYTES];
         slot[..RECORD_BYTES].copy_from_slice(&encode_record(record));
-        slot[RECORD_BYTES..].copy_from_slice(&level.to_le_bytes());
+        put_u16(slot, LEVEL_AT, level);
         used += 1;
     }
-    put_u16(&mut encoded, 0, used);
+    put_u16(&mut encoded, USED_AT, used);
     let owned = group.records().any(|record| !record.owns.is_empty());
     put_u16(&mut encoded, OWNED_AT, owned.into());
     if owned {
         encoded[OWNERS_AT..GROUP_BYTES].fill(0);
         for record in group.records() {
             for &offset in &record.owns {
-                let owner = u16::from(record.start) + 1;
-                put_u16(&mut encoded, owner_at(offset), owner);
+                put_u16(&mut encoded, owner_at(offset), owner(record));
             }
         }
     }
@@ -76,7 +47,7 @@ pub fn encode_group(group: &Group, bytes: &mut [u8]) -> bool {
 /// The group that [`GROUP_BYTES`] bytes encode, or None where these bytes encode
 /// no group.
 pub fn decode_group(bytes: &[u8]) -> Option<Group> {
-    let used = usize::from(u16_at(bytes, 0));
+    let used = usize::from(u16_at(bytes, USED_AT));
     if used > GROUP_RECORDS {
         return None;
     }
@@ -93,11 +64,11 @@ pub fn decode_group(bytes: &[u8]) -> Option<Group> {
     for slot in &slots[..used] {
         let mut record = decode_record(*slot.first_chunk().expect("a slot begins with a record"));
         if record.is_approximate() {
-            let name = u16::from(record.start) + 1;
-            known.insert(name);
-            record.owns = owned.get(&name).cloned().unwrap_or_default();
+            let owner = owner(&record);
+            known.insert(owner);
+            record.owns = owned.get(&owner).cloned().unwrap_or_default();
         }
-        let level = usize::from(u16_at(slot, RECORD_BYTES));
+        let level = usize::from(u16_at(slot, LEVEL_AT));
         let levels = group.levels.len();
         if level == levels {
             group.levels.push(vec![record]);
@@ -120,101 +91,17 @@ pub fn read_group(bytes: &[u8]) -> Group {
     })
 }
 
-/// The bytes of a state whose lengths fit its numbers, over `fill` where nothing
-/// is read. None where no bytes encode it.
-pub fn encode_state(state: &State, mut fill: impl FnMut() -> u8) -> Option<Vec<u8>> {
-    let numbers = state.numbers.iter().flat_map(|n| n.to_le_bytes());
-    let mut bytes: Vec<u8> = numbers.collect();
-    for &count in &state.counts {
-        bytes.extend(u16::try_from(count).ok()?.to_le_bytes());
-    }
-    for group in &state.groups {
-        let from = bytes.len();
-        bytes.extend((0..GROUP_BYTES).map(|_| fill()));
-        if !encode_group(group, &mut bytes[from..]) {
-            return None;
-        }
-    }
-    Some(bytes)
-}
-
-/// What any bytes of a state are read as.
-pub fn read_state(bytes: &[u8]) -> Lent {
-    let Some(head) = bytes.first_chunk::<HEAD_BYTES>() else {
-        return Lent::Short;
-    };
-    let (numbers, _) = head.as_chunks::<4>();
-    let numbers: [u32; 4] = std::array::from_fn(|i| u32::from_le_bytes(numbers[i]));
-    let fitting = Device::new(numbers).filter(|device| bytes.len() == state_bytes(device));
-    let (counts, groups) = fitting.map_or((&[][..], &[][..]), |device| {
-        bytes[HEAD_BYTES..].split_at(groups_at(&device) - HEAD_BYTES)
-    });
-    Lent::Held(State {
-        numbers,
-        counts: counts.chunks(2).map(|c| u16_at(c, 0).into()).collect(),
-        groups: groups.chunks(GROUP_BYTES).map(read_group).collect(),
-    })
-}
-
-/// The eight bytes of a record.
-pub fn encode_record(record: &Record) -> [u8; RECORD_BYTES] {
-    let Record {
-        start,
-        span,
-        word,
-        intercept,
-        owns: _,
-    } = *record;
-    let plain = record::Record {
-        start,
-        span,
-        word,
-        intercept,
-    };
-    plain.to_bytes()
-}
-
-/// The record of eight bytes, which owns nothing yet.
-fn decode_record(bytes: [u8; RECORD_BYTES]) -> Record {
-    let plain = record::Record::from_bytes(bytes);
-    Record {
-        start: plain.start,
-        span: plain.span,
-        word: plain.word,
-        intercept: plain.intercept,
-        owns: BTreeSet::new(),
-    }
-}
-
-/// Where the owner of an offset is.
-pub fn owner_at(offset: u8) -> usize {
-    OWNERS_AT + OWNER_BYTES * usize::from(offset)
-}
-
-fn u16_at(bytes: &[u8], at: usize) -> u16 {
-    u16::from_le_bytes([bytes[at], bytes[at + 1]])
-}
-
-fn put_u16(bytes: &mut [u8], at: usize, number: u16) {
-    bytes[at..at + 2].copy_from_slice(&number.to_le_bytes());
+/// What is stored for an offset that an approximate record owns.
+fn owner(record: &Record) -> u16 {
+    u16::from(record.start) + 1
 }
 
 #[cfg(test)]
 mod tests {
     use hedjosur_model::record::Kind;
-    use hedjosur_model::testing::full_device;
 
     use super::*;
-
-    /// The lengths that docs/LAYOUT.md gives as examples.
-    #[test]
-    fn states_have_the_lengths_of_the_page() {
-        let script = Device::new([9, 64, 256, 1]).expect("the script's device");
-        assert_eq!(GROUP_BYTES, 5636);
-        assert_eq!(state_bytes(&script), 5670);
-        assert_eq!(state_bytes(&full_device(3, 4, 0)), 5658);
-        assert_eq!(state_bytes(&full_device(4096, 256, 0)), 11_550_736);
-    }
+    use crate::Part;
 
     /// A group of an accurate record over an approximate one.
     fn two_levels() -> Group {
@@ -226,7 +113,7 @@ mod tests {
         }
     }
 
-    fn encoded(group: &Group) -> [u8; GROUP_BYTES] {
+    fn encoded(group: &Group) -> Part {
         let mut bytes = [0xA5; GROUP_BYTES];
         assert!(encode_group(group, &mut bytes));
         bytes

@@ -1,0 +1,109 @@
+//! The baseline; no other file of this crate knows it.
+
+use hedjosur_baseline::learn::learn;
+use hedjosur_baseline::offsets::Offsets;
+use hedjosur_baseline::record::Record;
+use hedjosur_baseline::sort::sort_batch;
+use hedjosur_baseline::{device, group};
+use hedjosur_layout::{state_bytes, Part, SLOT_BYTES};
+use hedjosur_model::device::Device;
+use hedjosur_model::ops::{Collected, Flushed, Lookup, Refusal};
+use hedjosur_model::script::Listed;
+use hedjosur_probe_sys::Found;
+
+use super::Subject;
+use crate::calls::Calls;
+
+/// The baseline.
+#[derive(Clone, Copy, Debug)]
+pub struct Baseline;
+
+impl Subject for Baseline {
+    fn sort(&self, batch: &[u32], pages: &mut [u32], sources: &mut [u32]) -> usize {
+        sort_batch(batch, pages, sources)
+    }
+
+    fn learn(&self, written: &[u32], first: u32, bound: u32, out: &mut [u8]) -> usize {
+        learn(written, first, bound, out)
+    }
+
+    fn is_sound(&self, part: &Part, logical_pages: u32, number: u32) -> bool {
+        group::sound(part, logical_pages, number)
+    }
+
+    fn find(&self, part: &Part, offset: u8) -> Found {
+        let group::Found { record, levels } = group::find(part, offset);
+        Found {
+            record: record.map(|record| (record.start, record.word)),
+            levels,
+        }
+    }
+
+    fn insert(&self, part: &mut Part, record: &[u8; 8], mask: &[u8; 256]) -> usize {
+        let members: Offsets = (0..=255)
+            .filter(|&offset| mask[usize::from(offset)] != 0)
+            .collect();
+        group::insert(part, Record::from_bytes(*record), members);
+        group::records(part)
+    }
+
+    fn compact(&self, part: &mut Part) -> usize {
+        group::compact(part)
+    }
+}
+
+impl Calls for Baseline {
+    fn lengths(&self, numbers: [u32; 4]) -> Option<[usize; 2]> {
+        let device = Device::new(numbers)?;
+        Some([state_bytes(&device), device.spare_length()])
+    }
+
+    fn format(&self, state: &mut [u8], area: &mut [u32], numbers: [u32; 4]) -> Result<(), Refusal> {
+        device::format(state, area, numbers)
+    }
+
+    fn flush(
+        &self,
+        state: &mut [u8],
+        area: &mut [u32],
+        batch: &[u32],
+        plan: &mut [u32],
+    ) -> Result<Flushed, Refusal> {
+        device::flush(state, area, batch, plan)
+    }
+
+    fn lookup(&self, state: &[u8], area: &[u32], logical_page: u32) -> Result<Lookup, Refusal> {
+        device::lookup(state, area, logical_page)
+    }
+
+    fn collect(
+        &self,
+        state: &mut [u8],
+        area: &mut [u32],
+        plan: &mut [u32],
+        erased: &mut [u32],
+    ) -> Result<Collected, Refusal> {
+        device::collect(state, area, plan, erased)
+    }
+
+    fn compact(&self, state: &mut [u8], group: u32) -> Result<usize, Refusal> {
+        device::compact(state, group)
+    }
+
+    fn agree(&self, one: (&[u8], &[u32]), other: (&[u8], &[u32])) -> Result<bool, Refusal> {
+        device::agree(one, other)
+    }
+
+    fn list(&self, state: &[u8], group: u32, out: &mut [u8]) -> Result<Vec<Listed>, Refusal> {
+        let count = device::list(state, group, out)?;
+        let (slots, _) = out.as_chunks::<SLOT_BYTES>();
+        let records = slots[..count]
+            .iter()
+            .map(|&[s, l, w0, w1, i0, i1, i2, i3, l0, l1]| {
+                let record = Record::from_bytes([s, l, w0, w1, i0, i1, i2, i3]);
+                let level = u16::from_le_bytes([l0, l1]).into();
+                (level, s, l, record.word, record.intercept)
+            });
+        Ok(records.collect())
+    }
+}

@@ -1,0 +1,18 @@
+//! What the tests share, repeatable and without dependencies: seeded generators,
+//! ways to break soundness, and the running of a program.
+
+mod devices;
+mod program;
+mod random;
+mod rounds;
+mod spoilers;
+mod states;
+mod world;
+
+pub use devices::{batch, full_device, lists, small_device, sorted_batch};
+pub use program::{proved_listing, run_program};
+pub use random::Random;
+pub use rounds::{multiplier, rounds, CallLog};
+pub use spoilers::{Spoiler, SPOILERS};
+pub use states::{any_area, any_record, last_offset, sound_group, sound_state};
+pub use world::World;

@@ -1,0 +1,63 @@
+//! A state with its spare area, and calls on both.
+
+use super::{batch, lists, Random};
+use crate::device::Device;
+use crate::ops::{self, Flushed, Lookup, Refusal};
+use crate::state::{Lent, State};
+
+/// A state and its spare area.
+#[derive(Clone, Debug, PartialEq, Eq)]
+pub struct World {
+    /// The state slice.
+    pub lent: Lent,
+    /// The spare area.
+    pub area: Vec<u32>,
+}
+
+impl World {
+    /// A newly formatted device.
+    pub fn formatted(device: &Device) -> World {
+        let mut lent = Lent::fitting(device);
+        let mut area = vec![0; device.spare_length()];
+        ops::format(&mut lent, &mut area, device.numbers()).expect("an accepted format");
+        World { lent, area }
+    }
+
+    /// A device after some accepted flushes and collections.
+    pub fn lived_in(random: &mut Random, device: &Device) -> World {
+        let mut world = World::formatted(device);
+        for _ in 0..random.below(3 * device.blocks.min(8)) {
+            let batch = batch(random, device);
+            if world.flush(&batch).is_err() || random.once_in(6) {
+                let [mut plan, mut erased] = lists(device);
+                // Refused 8 now and then, which is no harm here.
+                let _ = ops::collection(&mut world.lent, &mut world.area, &mut plan, &mut erased);
+            }
+        }
+        world
+    }
+
+    /// The device, of a state that refuses neither 1 nor 2.
+    pub fn device(&self) -> Device {
+        self.lent.open().expect("a device").0
+    }
+
+    /// The contents, of a state that is long enough to hold its numbers.
+    pub fn state_mut(&mut self) -> &mut State {
+        match &mut self.lent {
+            Lent::Held(state) => state,
+            Lent::Short => panic!("the state is too short"),
+        }
+    }
+
+    /// A flush whose plan is thrown away.
+    pub fn flush(&mut self, batch: &[u32]) -> Result<Flushed, Refusal> {
+        let [mut plan, _] = lists(&self.device());
+        ops::flush(&mut self.lent, &mut self.area, batch, &mut plan)
+    }
+
+    /// A lookup.
+    pub fn lookup(&self, logical_page: u32) -> Result<Lookup, Refusal> {
+        ops::lookup(&self.lent, &self.area, logical_page)
+    }
+}

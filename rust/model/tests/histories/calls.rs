@@ -1,0 +1,112 @@
+//! The calls, with the book beside them.
+
+use hedjosur_model::book::Heard;
+use hedjosur_model::device::Device;
+use hedjosur_model::ops::{self, Collected, Flushed, Refusal};
+use hedjosur_model::testing::{lists, World};
+
+use crate::history::History;
+
+impl History<'_> {
+    /// An accepted format of a device of the same lengths.
+    pub fn format(&mut self, device: Device) {
+        let numbers = device.numbers();
+        self.log.note(("format", numbers));
+        let World { lent, area } = &mut self.world;
+        assert_eq!(ops::format(lent, area, numbers), Ok(()));
+        self.device = device;
+        self.book.hear(Heard::Format(numbers));
+        self.check();
+    }
+
+    /// A flush with a plan of the right length, which only refuses for want of
+    /// a free block.
+    pub fn flush(&mut self, batch: &[u32]) -> Result<Flushed, Refusal> {
+        self.log.note(("flush", batch));
+        let before = self.world.clone();
+        let [mut plan, _] = lists(&self.device);
+        let World { lent, area } = &mut self.world;
+        let answer = ops::flush(lent, area, batch, &mut plan);
+        match answer {
+            Ok(flushed) => {
+                self.book.hear(Heard::Flush(batch, flushed, &plan));
+                self.watch(&before, flushed.first, flushed.count);
+            }
+            Err(refusal) => {
+                assert_eq!(refusal, Refusal::NoFreeBlock);
+                assert_eq!(plan, lists(&self.device)[0]);
+                self.refused(&before);
+            }
+        }
+        self.check();
+        answer
+    }
+
+    /// A collection with lists of the right lengths: '3, 7 and 6 here never
+    /// occur'.
+    pub fn collection(&mut self) -> Result<Collected, Refusal> {
+        self.log.note("collection");
+        let before = self.world.clone();
+        let [mut plan, mut erased] = lists(&self.device);
+        let World { lent, area } = &mut self.world;
+        let answer = ops::collection(lent, area, &mut plan, &mut erased);
+        match answer {
+            Ok(collected) => {
+                self.book.hear(Heard::Collection(collected, &plan, &erased));
+                self.watch(&before, collected.first, collected.count);
+                // The block flushed or collected last always has valid pages, and
+                // any one block's can be taken, so the total is never 0 here.
+                assert!(collected.count > 0 && collected.erased >= 2);
+                self.events.collected += 1;
+            }
+            Err(refusal) => {
+                assert_eq!(refusal, Refusal::NothingToGain);
+                assert_eq!([plan, erased], lists(&self.device));
+                self.events.nothing_to_gain += 1;
+                self.refused(&before);
+            }
+        }
+        self.check();
+        answer
+    }
+
+    /// An accepted compaction.
+    pub fn compaction(&mut self) {
+        let group = self.random.below(self.device.groups() as u32);
+        self.log.note(("compaction", group));
+        let left = ops::compaction(&mut self.world.lent, group).expect("an accepted compaction");
+        assert!(left <= 256);
+        self.book.hear(Heard::Other);
+        self.check();
+    }
+
+    /// An accepted lookup, as a call of the list.
+    pub fn lookup(&mut self) {
+        let logical_page = self.random.below(self.device.logical_pages);
+        self.log.note(("lookup", logical_page));
+        assert!(self.world.lookup(logical_page).is_ok());
+        self.book.hear(Heard::Other);
+    }
+
+    /// Agreement with an earlier world, which may become the present one.
+    pub fn agreement(&mut self) {
+        self.log.note("agreement");
+        let pages = |world: &World| -> Vec<Option<u32>> {
+            (0..world.device().logical_pages)
+                .map(|page| world.lookup(page).expect("an accepted lookup").page())
+                .collect()
+        };
+        let (one, other) = (&self.world, &self.earlier);
+        let answer = ops::agreement((&one.lent, &one.area), (&other.lent, &other.area));
+        let expected = pages(one) == pages(other);
+        assert_eq!(answer, Ok(expected));
+        match expected {
+            true => self.events.agreed += 1,
+            false => self.events.disagreed += 1,
+        }
+        self.book.hear(Heard::Other);
+        if self.random.once_in(2) {
+            self.earlier = self.world.clone();
+        }
+    }
+}
