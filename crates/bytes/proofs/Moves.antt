@@ -7,9 +7,9 @@ use native.Mathlib.Numerals.{add-one}
 use lib.ListN.{length, getD, set, take, drop, length-drop}
 use lib.Seq.{take-suc, take-set-le, drop-set-lt, drop-set-add, drop-cons, getD-drop}
 use Rattle.model.specs.Lists.{store}
-use Rattle.model.proofs.Lists.{length-store}
+use Rattle.model.proofs.Lists.{length-store, store-nil, store-first}
 use Rattle.bytes.specs.Slots.{movedUp, movedDown}
-use Rattle.bytes.proofs.Stores.{store-nil, store-first, store-last}
+use Rattle.bytes.proofs.Stores.{store-last}
 use Rattle.bytes.proofs.Same.{Same, same-first, same-then, length-part, part-at, stored-below, stored-above, stored-at}
 
 -- a move keeps the length

@@ -6,22 +6,9 @@ use native.Mathlib.Omega.{arith}
 use lib.ListN.{length, set, take, drop}
 use lib.Seq.{drop-drop}
 use Rattle.model.specs.Lists.{store}
+use Rattle.model.proofs.Lists.{store-nil, store-first}
 
 module _ {A : Type 0} where
-  -- nothing stored changes nothing
-  pub store-nil : (s : List A) (p : ℕ) → store s p [] ≡ s
-  unfolding store
-  store-nil [] p = refl
-  store-nil (x ∷ s) zero = refl
-  store-nil (x ∷ s) (suc p) = ap (λ (l : List A). x ∷ l) (store-nil s p)
-
-  -- the first element, then the others
-  pub store-first : (s : List A) (p : ℕ) (v : A) (vs : List A) → store s p (v ∷ vs) ≡ store (set s p v) (suc p) vs
-  unfolding store
-  store-first [] p v vs = refl
-  store-first (x ∷ s) zero v vs = refl
-  store-first (x ∷ s) (suc p) v vs = ap (λ (l : List A). x ∷ l) (store-first s p v vs)
-
   -- the last element, then the others
   pub store-last : (s : List A) (p : ℕ) (vs : List A) (v : A) → store s p (vs ++ (v ∷ [])) ≡ store (set s (p + length vs) v) p vs
   unfolding store

@@ -1,20 +1,21 @@
--- While all holds of two states, an agreement of them is not refused: each is opened and sound, and every lookup is named.
--- Assumes nothing.
+-- While the invariant holds of two states with their spare areas, an agreement of them is not refused: each is opened and sound, and
+-- every lookup is named. Assumes nothing.
 use mathlib.Core.Path.{_≡_, refl, ap}
+use mathlib.Core.List.{List, [], _∷_, _++_}
 use mathlib.Core.Option.{Option, none, some}
-use mathlib.Core.Bool.{Bool, true, not}
+use mathlib.Core.Bool.{Bool, true, not, _&&_}
 use Prim.Native.Nat.{ℕ, zero, suc, _<_}
 use native.Mathlib.Omega.{arith}
-use Rattle.model.proofs.Bools.{and-i}
-use Rattle.calls.specs.Refusals.{firstRefusal}
+use Rattle.model.specs.State.{State}
+use Rattle.model.proofs.Bools.{and-i, neither}
+use Rattle.calls.specs.Refusals.{notNamed, Check, _when_}
 use Rattle.calls.specs.Outcome.{accepted, number}
 use Rattle.calls.specs.Lookup.{seek}
 use Rattle.calls.specs.Agreement.{eachBelow, isNamed, allNamed, stateChecks, agreeChecks, agrees, agreeAnswer, agree}
-use Rattle.calls.specs.History.{Past}
-use Rattle.calls.proofs.Decided.{passes, no-checks}
+use Rattle.calls.proofs.Refusing.{Clear, is-clear}
+use Rattle.calls.proofs.Invariant.{Inv}
 use Rattle.calls.proofs.Found.{seek-found, seek-nowhere}
-use Rattle.calls.proofs.Holding.{Holds}
-use Rattle.calls.proofs.Passing.{numbers-there, state-right, spare-right, is-sound, neither}
+use Rattle.calls.proofs.Passing.{numbers-there, state-right, spare-right}
 
 -- a test that each number below n passes
 each-below : (n : ℕ) (t : ℕ → Bool) → ((x : ℕ) → x < n → t x ≡ true) → eachBelow n t ≡ true
@@ -22,30 +23,30 @@ unfolding eachBelow
 each-below zero t h = refl
 each-below (suc n) t h = and-i (t n) (eachBelow n t) (h n (omega arith)) (each-below n t (λ x b. h x (omega arith)))
 
-module _ (h : Past) (v : Holds h) where
-  named : (x : ℕ) → x < h .state .device .N → isNamed (seek (h .state) (h .spare) x) ≡ true
-  unfolding isNamed
-  named x b = go (v .place x) refl
-    where
-      go : (o : Option ℕ) → v .place x ≡ o → isNamed (seek (h .state) (h .spare) x) ≡ true
-      go none e = ap isNamed (seek-nowhere (h .state) (h .spare) (v .image) (v .place) (v .inv) x b e)
-      go (some p) e = ap isNamed (seek-found (h .state) (h .spare) (v .image) (v .place) (v .inv) x p (v .inv .placed x p b e) .sought)
+all-named : (s : State) (spare : List ℕ) (place : ℕ → Option ℕ) → Inv s spare place → allNamed s spare ≡ true
+unfolding allNamed isNamed
+all-named s spare place v = each-below (s .device .N) _ (λ x b. go x b (place x) refl)
+  where
+    go : (x : ℕ) → x < s .device .N → (o : Option ℕ) → place x ≡ o → isNamed (seek s spare x) ≡ true
+    go x b none e = ap isNamed (seek-nowhere s spare place v x b e)
+    go x b (some p) e = ap isNamed (seek-found s spare place v x p (v .placed x p b e) .sought)
 
-  all-named : allNamed (h .state) (h .spare) ≡ true
-  unfolding allNamed
-  all-named = each-below (h .state .device .N) _ named
+-- the checks of one of the two states
+state-clear : (s : State) (spare : List ℕ) (place : ℕ → Option ℕ) → Inv s spare place → Clear (stateChecks s spare)
+unfolding stateChecks
+state-clear s spare place v = (numbers-there s spare place v, (neither _ _ (state-right s spare place v) (spare-right s spare place v), (ap not (v .sound), tt)))
+
+both-clear : (cs ds : List Check) → Clear cs → Clear ds → Clear (cs ++ ds)
+both-clear [] ds c d = d
+both-clear (x ∷ cs) ds c d = (c .0, both-clear cs ds (c .1) d)
 
 -- An agreement of two such states is accepted.
-pub agree-accepted : (h h′ : Past) → Holds h → Holds h′ → accepted (agree (h .state) (h .spare) (h′ .state) (h′ .spare)) ≡ true
-unfolding agree agreeChecks stateChecks agreeAnswer accepted number
-agree-accepted h h′ v v′ = ap (λ o. accepted (agreeAnswer o (agrees (h .state) (h .spare) (h′ .state) (h′ .spare)))) opened
-  where
-    opened : firstRefusal (agreeChecks (h .state) (h .spare) (h′ .state) (h′ .spare)) ≡ none
-    opened =
-        passes _ _ (numbers-there (h .state) (h .spare) (v .image) (v .place) (v .inv))
-        (passes _ _ (neither _ _ (state-right (h .state) (h .spare) (v .image) (v .place) (v .inv)) (spare-right (h .state) (h .spare) (v .image) (v .place) (v .inv)))
-        (passes _ _ (is-sound (h .state) (h .spare) (v .image) (v .place) (v .inv))
-        (passes _ _ (numbers-there (h′ .state) (h′ .spare) (v′ .image) (v′ .place) (v′ .inv))
-        (passes _ _ (neither _ _ (state-right (h′ .state) (h′ .spare) (v′ .image) (v′ .place) (v′ .inv)) (spare-right (h′ .state) (h′ .spare) (v′ .image) (v′ .place) (v′ .inv)))
-        (passes _ _ (is-sound (h′ .state) (h′ .spare) (v′ .image) (v′ .place) (v′ .inv))
-        (passes _ _ (ap not (and-i _ _ (all-named h v) (all-named h′ v′))) no-checks))))))
+pub agree-accepted : (s : State) (spare : List ℕ) (place : ℕ → Option ℕ) → Inv s spare place → (s′ : State) (spare′ : List ℕ) (place′ : ℕ → Option ℕ) → Inv s′ spare′ place′
+    → accepted (agree s spare s′ spare′) ≡ true
+unfolding agree agreeChecks agreeAnswer accepted number
+agree-accepted s spare place v s′ spare′ place′ v′ =
+    ap (λ o. accepted (agreeAnswer o (agrees s spare s′ spare′)))
+    (is-clear (agreeChecks s spare s′ spare′)
+    (both-clear (stateChecks s spare ++ stateChecks s′ spare′) (notNamed when not (allNamed s spare && allNamed s′ spare′) ∷ [])
+    (both-clear (stateChecks s spare) (stateChecks s′ spare′) (state-clear s spare place v) (state-clear s′ spare′ place′ v′))
+    (ap not (and-i _ _ (all-named s spare place v) (all-named s′ spare′ place′ v′)), tt)))

@@ -1,9 +1,10 @@
--- Under the invariant a lookup finds where a logical page lies, and which pages are valid. Assumes nothing.
+-- Under the invariant a lookup finds where a logical page lies, and the valid pages and their middle entries are a test and a name that
+-- fit the page map. Assumes nothing.
 use mathlib.Core.Path.{_≡_, refl, sym, _∙_, ap}
 use mathlib.Core.List.{List, [], _∷_}
 use mathlib.Core.Option.{Option, none, some}
 use mathlib.Core.Bool.{true≢false, Bool, true, false}
-use Prim.Native.Nat.{ℕ, zero, suc, _+_, _≤_, _<_}
+use Prim.Native.Nat.{ℕ, zero, suc, _+_, _/_, _%_, _≤_, _<_}
 use native.Mathlib.Omega.{arith}
 use lib.Dec.{ltb, leb}
 use lib.ListN.{length, getD}
@@ -18,13 +19,20 @@ use Rattle.model.specs.State.{State, groupAt}
 use Rattle.model.specs.Sound.{soundState, soundGroups}
 use Rattle.model.proofs.Lists.{getD-default}
 use Rattle.model.proofs.Bools.{and-l, and-r, and-i, all-head, all-tail}
-use Rattle.model.proofs.Limits.{limits, page-inside, N-below-nobody}
+use Rattle.model.proofs.Limits.{limits, page-inside, page-block, page-split, N-below-nobody}
 use Rattle.model.proofs.Holder.{met-none, met-some, predict-line}
 use Rattle.model.proofs.Image.{image-middle}
 use Rattle.model.proofs.PageNamed.{page-named}
 use Rattle.calls.specs.Lookup.{at, nowhere, unnamed, soughtNamed, soughtAt, soughtBy, seek}
 use Rattle.calls.specs.Collection.{gives, valid}
+use Rattle.calls.specs.PageMap.{PageMap}
+use Rattle.calls.proofs.Naming.{Names}
+use Rattle.calls.proofs.MapInvariant.{MapInv}
 use Rattle.calls.proofs.Invariant.{Lies, Inv}
+
+-- the page map beside a state
+abbrev pub mapOf : State → (ℕ → Option ℕ) → PageMap
+mapOf s place = record { device = s .device; counts = s .counts; place = place }
 
 -- every count of a list that passes `all` is within the bound
 counts-below : (b : ℕ) (cs : List ℕ) (k : ℕ) → all (λ c. leb c b) cs ≡ true → getD cs k 0 ≤ b
@@ -32,7 +40,10 @@ counts-below b [] k h = omega arith
 counts-below b (c ∷ cs) zero h = leb-true c b (all-head (λ c. leb c b) c cs h)
 counts-below b (c ∷ cs) (suc k) h = counts-below b cs k (all-tail (λ c. leb c b) c cs h)
 
-module _ (s : State) (spare : List ℕ) (image : ℕ → List ℕ) (place : ℕ → Option ℕ) (v : Inv s spare image place) where
+module _ (s : State) (spare : List ℕ) (place : ℕ → Option ℕ) (v : Inv s spare place) where
+  abbrev image : ℕ → List ℕ
+  image = v .image
+
   -- A block's image fits the block.
   pub image-fits : (k : ℕ) → k < s .device .M → length (image k) ≤ s .device .B
   unfolding soundState
@@ -55,11 +66,12 @@ module _ (s : State) (spare : List ℕ) (image : ℕ → List ℕ) (place : ℕ 
   seek-found x p l =
       let q : ℕ = firstPage (s .device) (l .block) + l .near in
       let fits : length (image (l .block)) ≤ s .device .B = image-fits (l .block) (l .inside) in
+      let whole : length (image (l .block)) ≡ getD (s .counts) (l .block) 0 = v .imaged .count (l .block) (l .inside) in
       let nearIn : l .near < s .device .B = omega (arith, l .nearWritten) in
       let exists : ltb q (pages (s .device)) ≡ true = lt-ltb q (pages (s .device)) (page-inside (s .device) (l .block) (l .near) (l .inside) nearIn) in
       let named : pageNamed (s .device) spare q x ≡ some (firstPage (s .device) (l .block) + l .slot) =
-      page-named (s .device) spare (l .block) (image (l .block)) (l .slot) (l .near) x q (v .imaged .entries (l .block) (l .inside)) (v .imaged .ascends (l .block) (l .inside))
-      fits (image-named (l .block) (l .inside)) (l .inside) (l .written) (l .carries) refl (l .nearWritten) (l .above) (l .below) in
+      page-named (s .device) spare (l .block) (image (l .block)) (getD (s .counts) (l .block) 0) (l .slot) (l .near) x q (v .imaged .entries (l .block) (l .inside)) (v .imaged .ascends (l .block) (l .inside))
+      fits (omega (arith, whole)) (image-named (l .block) (l .inside)) (l .inside) (l .written) (l .carries) refl (omega (arith, whole, l .nearWritten)) (l .above) (l .below) in
       let n : ℕ = levelsTo (offsetOf x) (groupAt s (groupOf x)) in
       let m = met-some (offsetOf x) (listing (groupAt s (groupOf x))) (l .line) (l .isMet) in
       let z : predict (m .0) (offsetOf x) ≡ pos q = predict-line (m .0) (l .line) (offsetOf x) (m .2) ∙ l .predicts in
@@ -79,30 +91,44 @@ module _ (s : State) (spare : List ℕ) (image : ℕ → List ℕ) (place : ℕ 
   seek-nowhere x h e =
       ap (soughtBy (s .device) spare x (levelsTo (offsetOf x) (groupAt s (groupOf x)))) (met-none (offsetOf x) (listing (groupAt s (groupOf x))) (v .unplaced x h e))
 
-  -- A page on which a logical page lies is valid.
-  pub lies-valid : (x p : ℕ) → x < s .device .N → Lies s image x p → (middle (s .device) spare p ≡ x) × (valid s spare p ≡ true)
+  -- A page on which a logical page lies is valid, and a valid page is one on which its logical page lies.
+  pub valid-names : Names (s .device .N) place (valid s spare) (middle (s .device) spare)
   unfolding valid gives
-  lies-valid x p h l =
-      let fits : length (image (l .block)) ≤ s .device .B = image-fits (l .block) (l .inside) in
-      let e : middle (s .device) spare p ≡ x =
-      ap (middle (s .device) spare) (l .page)
-      ∙ image-middle (s .device) spare (l .block) (image (l .block)) (l .slot) (v .imaged .entries (l .block) (l .inside)) (omega (arith, l .written))
-      ∙ getD-default (image (l .block)) (l .slot) nobody 0 (l .written) ∙ l .carries in
-      let a = seek-found x p l in
-      let g : gives p (seek s spare x) ≡ true = ap (gives p) (a .sought) ∙ eq-eqb p p refl in
-      (e, rw e (and-i _ _ (lt-ltb x (s .device .N) h) g))
-
-  -- A valid page is one on which its logical page lies.
-  pub valid-lies : (p : ℕ) → valid s spare p ≡ true → (middle (s .device) spare p < s .device .N) × (place (middle (s .device) spare p) ≡ some p)
-  unfolding valid gives
-  valid-lies p h =
-      let x : ℕ = middle (s .device) spare p in
-      let b : x < s .device .N = ltb-true x (s .device .N) (and-l _ _ h) in
-      (b, go x b (place x) refl (and-r (ltb x (s .device .N)) _ h))
+  valid-names = record { only = only; every = λ x p h e. every x p h (v .placed x p h e) }
     where
-      go : (x : ℕ) → x < s .device .N → (o : Option ℕ) → place x ≡ o → gives p (seek s spare x) ≡ true → place x ≡ some p
-      go x b none e g = absurd (true≢false (sym g ∙ ap (gives p) (seek-nowhere x b e)))
-      go x b (some p′) e g =
-          let a = seek-found x p′ (v .placed x p′ b e) in
-          let q : p ≡ p′ = eqb-true p p′ (sym (ap (gives p) (a .sought)) ∙ g) in
-          e ∙ ap (λ (y : ℕ). some y) (sym q)
+      every : (x p : ℕ) → x < s .device .N → Lies s image x p → (valid s spare p ≡ true) × (middle (s .device) spare p ≡ x)
+      every x p h l =
+          let e : middle (s .device) spare p ≡ x =
+          ap (middle (s .device) spare) (l .page)
+          ∙ image-middle (s .device) spare (l .block) (image (l .block)) (getD (s .counts) (l .block) 0) (l .slot) (v .imaged .entries (l .block) (l .inside)) (omega (arith, l .written, v .imaged .count (l .block) (l .inside))) (omega (arith, l .written, image-fits (l .block) (l .inside)))
+          ∙ getD-default (image (l .block)) (l .slot) nobody 0 (l .written) ∙ l .carries in
+          let g : gives p (seek s spare x) ≡ true = ap (gives p) (seek-found x p l .sought) ∙ eq-eqb p p refl in
+          (rw e (and-i _ _ (lt-ltb x (s .device .N) h) g), e)
+
+      found : (x p : ℕ) → x < s .device .N → (o : Option ℕ) → place x ≡ o → gives p (seek s spare x) ≡ true → place x ≡ some p
+      found x p b none e g = absurd (true≢false (sym g ∙ ap (gives p) (seek-nowhere x b e)))
+      found x p b (some q) e g = e ∙ ap (λ (y : ℕ). some y) (sym (eqb-true p q (sym (ap (gives p) (seek-found x q (v .placed x q b e) .sought)) ∙ g)))
+
+      only : (p : ℕ) → valid s spare p ≡ true → (middle (s .device) spare p < s .device .N) × (place (middle (s .device) spare p) ≡ some p)
+      only p h =
+          let x : ℕ = middle (s .device) spare p in
+          let b : x < s .device .N = ltb-true x (s .device .N) (and-l _ _ h) in
+          (b, found x p b (place x) refl (and-r (ltb x (s .device .N)) _ h))
+
+  -- The page on which a logical page lies is in the block where it lies, at its place there.
+  pub lies-at : (x p : ℕ) (l : Lies s image x p) → (p / s .device .B ≡ l .block) × (p % s .device .B ≡ l .slot)
+  lies-at x p l =
+      let b : p / s .device .B ≡ l .block = ap (λ (q : ℕ). q / s .device .B) (l .page) ∙ page-block (s .device) (l .block) (l .slot) (omega (arith, l .written, image-fits (l .block) (l .inside))) in
+      (b, omega (arith, rw b at (page-split (s .device) p), l .page))
+
+  -- So the page map's own invariant holds.
+  pub inv-map : MapInv (mapOf s place)
+  inv-map = record {
+    limits = v .limits;
+    counted = v .counted;
+    written = λ x p h e.
+        let l = v .placed x p h e in
+        let a = lies-at x p l in
+        rw (a .0, a .1) (omega (arith, l .written, v .imaged .count (l .block) (l .inside)));
+    alone = λ x y p h k e f. sym (valid-names .every x p h e .1) ∙ valid-names .every y p k f .1;
+  }

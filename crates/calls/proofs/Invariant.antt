@@ -1,12 +1,11 @@
--- What holds of state and spare area from a format on: the state is sound, each block has the image of what was written there,
--- and each logical page that lies somewhere is met by a record that predicts a page near it. Assumes nothing.
+-- What holds between state, spare area and page map from a format on: the state is sound, each block has the image of what was
+-- written there, and each logical page that lies somewhere is met by a record that predicts a page near it. Assumes nothing.
 use mathlib.Core.Path.{_≡_, refl, sym, _∙_, ap, subst}
-use mathlib.Core.List.{List, [], _∷_}
+use mathlib.Core.List.{List}
 use mathlib.Core.Option.{Option, none, some}
-use mathlib.Core.Logic.{_≢_, _⊎_, inl, inr}
-use mathlib.Core.Bool.{true≢false, Bool, true, false}
-use Prim.Native.Nat.{ℕ, suc, _+_, _≤_, _<_}
-use native.Mathlib.Omega.{arith}
+use mathlib.Core.Logic.{_≢_}
+use mathlib.Core.Bool.{Bool, true, false}
+use Prim.Native.Nat.{ℕ, _+_, _≤_, _<_}
 use lib.Dec.{eqb}
 use lib.ListN.{length, getD, set}
 use lib.Seq.{getD-set-same, getD-set-other}
@@ -17,8 +16,7 @@ use Rattle.model.specs.Device.{Device, withinLimits, firstPage, offsetOf, group
 use Rattle.model.specs.Levels.{listing}
 use Rattle.model.specs.State.{State, groupAt}
 use Rattle.model.specs.Sound.{soundState}
-use Rattle.model.proofs.Lists.{Asc, elem-cons, no-elem}
-use Rattle.model.proofs.Bools.{is-false}
+use Rattle.model.proofs.Lists.{Asc}
 use Rattle.model.proofs.Line.{Line, met, linePredict}
 use Rattle.model.proofs.Image.{Image}
 
@@ -41,13 +39,14 @@ pub record Lies (s : State) (image : ℕ → List ℕ) (x p : ℕ) : Type 0 wher
 
 -- Each block has the spare entries of its image: as many logical pages as its count says, ascending, all below N.
 pub record Imaged (d : Device) (counts spare : List ℕ) (image : ℕ → List ℕ) : Type 0 where
-  pub entries : (k : ℕ) → k < d .M → Image d spare k (image k)
+  pub entries : (k : ℕ) → k < d .M → Image d spare k (image k) (getD counts k 0)
   pub count : (k : ℕ) → k < d .M → length (image k) ≡ getD counts k 0
   pub ascends : (k : ℕ) → k < d .M → Asc 0 (image k)
   pub logical : (k : ℕ) → k < d .M → (x : ℕ) → elem x (image k) ≡ true → x < d .N
 
--- The invariant, for the images of the blocks and the page map: where each logical page lies.
-pub record Inv (s : State) (spare : List ℕ) (image : ℕ → List ℕ) (place : ℕ → Option ℕ) : Type 0 where
+-- The invariant, for where each logical page lies on the page map.
+pub record Inv (s : State) (spare : List ℕ) (place : ℕ → Option ℕ) : Type 0 where
+  pub image : ℕ → List ℕ
   pub limits : withinLimits (s .device) ≡ true
   pub bytes : s .bytes ≡ stateLength (s .device)
   pub counted : length (s .counts) ≡ s .device .M
@@ -62,17 +61,19 @@ pub record Inv (s : State) (spare : List ℕ) (image : ℕ → List ℕ) (place 
 unfoldable pub update : ℕ → List ℕ → (ℕ → List ℕ) → ℕ → List ℕ
 update k v f j = elim (eqb j k) [ true ↦ v | false ↦ f j ]
 
+-- It has that value there ..
 pub update-here : (k : ℕ) (v : List ℕ) (f : ℕ → List ℕ) → update k v f k ≡ v
 unfolding update
 update-here k v f = rw (eq-eqb k k refl, update)
 
+-- .. and its own elsewhere.
 pub update-other : (k : ℕ) (v : List ℕ) (f : ℕ → List ℕ) (j : ℕ) → j ≢ k → update k v f j ≡ f j
 unfolding update
 update-other k v f j n = rw (ne-eqb j k n, update)
 
 -- Block k with another image, and every other block as it was: the blocks have their images again.
 pub imaged-update : (d : Device) (counts spare spare′ : List ℕ) (image : ℕ → List ℕ) (k n : ℕ) (w : List ℕ) → Imaged d counts spare image
-    → k < length counts → Image d spare′ k w → ((j : ℕ) → j ≢ k → Image d spare j (image j) → Image d spare′ j (image j))
+    → k < length counts → Image d spare′ k w n → ((j c : ℕ) → j ≢ k → Image d spare j (image j) c → Image d spare′ j (image j) c)
     → length w ≡ n → Asc 0 w → ((x : ℕ) → elem x w ≡ true → x < d .N)
     → Imaged d (set counts k n) spare′ (update k w image)
 imaged-update d counts spare spare′ image k n w v b i keeps size a below = record {
@@ -88,9 +89,13 @@ imaged-update d counts spare spare′ image k n w v b i keeps size a below = rec
     off : (j : ℕ) → eqb j k ≡ false → update k w image j ≡ image j
     off j e = update-other k w image j (eqb-false j k e)
 
-    entries-of : (j : ℕ) → j < d .M → (t : Bool) → eqb j k ≡ t → Image d spare′ j (update k w image j)
-    entries-of j h true e = subst (λ (l : List ℕ). Image d spare′ j l) (sym (here j e)) (subst (λ (m : ℕ). Image d spare′ m w) (sym (eqb-true j k e)) i)
-    entries-of j h false e = subst (λ (l : List ℕ). Image d spare′ j l) (sym (off j e)) (keeps j (eqb-false j k e) (v .entries j h))
+    entries-of : (j : ℕ) → j < d .M → (t : Bool) → eqb j k ≡ t → Image d spare′ j (update k w image j) (getD (set counts k n) j 0)
+    entries-of j h true e =
+        subst (λ (c : ℕ). Image d spare′ j (update k w image j) c) (sym (getD-set-same counts k n 0 b) ∙ ap (λ (m : ℕ). getD (set counts k n) m 0) (sym (eqb-true j k e)))
+        (subst (λ (l : List ℕ). Image d spare′ j l n) (sym (here j e)) (subst (λ (m : ℕ). Image d spare′ m w n) (sym (eqb-true j k e)) i))
+    entries-of j h false e =
+        subst (λ (c : ℕ). Image d spare′ j (update k w image j) c) (sym (getD-set-other counts k j n 0 (eqb-false j k e)))
+        (subst (λ (l : List ℕ). Image d spare′ j l (getD counts j 0)) (sym (off j e)) (keeps j (getD counts j 0) (eqb-false j k e) (v .entries j h)))
 
     count-of : (j : ℕ) → j < d .M → (t : Bool) → eqb j k ≡ t → length (update k w image j) ≡ getD (set counts k n) j 0
     count-of j h true e =
@@ -105,33 +110,3 @@ imaged-update d counts spare spare′ image k n w v b i keeps size a below = rec
     logical-of : (j : ℕ) → j < d .M → (t : Bool) → eqb j k ≡ t → (x : ℕ) → elem x (update k w image j) ≡ true → x < d .N
     logical-of j h true e x m = below x (sym (ap (elem x) (here j e)) ∙ m)
     logical-of j h false e x m = v .logical j h x (sym (ap (elem x) (off j e)) ∙ m)
-
--- where x stands on the pages from p on that a list of logical pages is written to, or else where it was
-unfoldable pub spot : ℕ → ℕ → List ℕ → Option ℕ → Option ℕ
-spot x p [] old = old
-spot x p (y ∷ l) old = elim (eqb x y) [ true ↦ some p | false ↦ spot x (suc p) l old ]
-
--- The two cases of that.
-pub data Spot (x p : ℕ) (w : List ℕ) (old : Option ℕ) : Option ℕ → Type 0 where
-  elsewhere : elem x w ≡ false → Spot x p w old old
-  there : (i : ℕ) → i < length w → getD w i 0 ≡ x → Spot x p w old (some (p + i))
-
-pub spot-view : (x p : ℕ) (w : List ℕ) (old : Option ℕ) → Spot x p w old (spot x p w old)
-unfolding spot
-spot-view x p [] old = elsewhere (is-false (elem x []) (λ h. no-elem x h))
-spot-view x p (y ∷ l) old = go (eqb x y) refl (spot x (suc p) l old) refl (spot-view x (suc p) l old)
-  where
-    miss : eqb x y ≡ false → elem x l ≡ false → (x ≡ y) ⊎ (elem x l ≡ true) → ⊥
-    miss e h (inl q) = eqb-false x y e q
-    miss e h (inr q) = true≢false (sym q ∙ h)
-
-    go : (t : Bool) → eqb x y ≡ t → (v : Option ℕ) → spot x (suc p) l old ≡ v → Spot x (suc p) l old v → Spot x p (y ∷ l) old (spot x p (y ∷ l) old)
-    go true e v q s =
-        let z : p + 0 ≡ p = omega arith in
-        let r : Spot x p (y ∷ l) old (some (p + 0)) = there 0 (omega arith) (sym (eqb-true x y e)) in
-        rw (e, spot) (rw z at r)
-    go false e v q (elsewhere h) = rw (e, spot) (rw q (elsewhere (is-false (elem x (y ∷ l)) (λ k. miss e h (elem-cons x y l k)))))
-    go false e v q (there i b h) =
-        let z : p + suc i ≡ suc p + i = omega arith in
-        let r : Spot x p (y ∷ l) old (some (p + suc i)) = there (suc i) (omega arith) h in
-        rw (e, spot) (rw q (rw z at r))

@@ -1,5 +1,5 @@
 -- A format gives the invariant; a compaction keeps it, and so does erasing a block on which nothing lies. Assumes nothing.
-use mathlib.Core.Path.{_≡_, refl, sym, _∙_, ap}
+use mathlib.Core.Path.{_≡_, refl, sym, _∙_, ap, subst}
 use mathlib.Core.List.{List, [], flatten}
 use mathlib.Core.Option.{Option, none, some}
 use mathlib.Core.Logic.{_≢_}
@@ -11,7 +11,7 @@ use lib.ListN.{length, getD, set, replicate, length-set, length-replicate, getD-
 use lib.Seq.{getD-set-same, getD-set-other, set-out}
 use borrow.Author.Tests.{le-leb, ltb-true, ltb-false, eqb-true, eqb-false}
 use Rattle.model.specs.Lists.{all}
-use Rattle.model.specs.Device.{Device, withinLimits, offsetOf, groupOf, groupCount, spareLength, stateLength}
+use Rattle.model.specs.Device.{Device, withinLimits, offsetOf, groupOf, groupCount, spareLength}
 use Rattle.model.specs.Spare.{nobody, erase}
 use Rattle.model.specs.Levels.{Group, listing, compact}
 use Rattle.model.specs.State.{State, withCounts, withGroups, groupAt}
@@ -19,12 +19,11 @@ use Rattle.model.specs.Sound.{soundState, soundGroups}
 use Rattle.model.proofs.Bools.{and-l, and-r, and-i, all-cons}
 use Rattle.model.proofs.Lists.{end, no-elem}
 use Rattle.model.proofs.SpareArea.{length-erase}
-use Rattle.model.proofs.Image.{erase-image, erase-keeps, blank-image}
+use Rattle.model.proofs.Image.{Image, erase-image, erase-keeps, blank-image}
 use Rattle.model.proofs.Line.{met}
 use Rattle.model.proofs.Compaction.{compact-met}
 use Rattle.model.proofs.SoundGroup.{sound-levels, compact-sound}
 use Rattle.model.proofs.SoundGroups.{replicate-sound, group-sound, set-sound}
-use Rattle.calls.specs.Outcome.{Lent}
 use Rattle.calls.specs.Format.{blankState}
 use Rattle.calls.specs.Compaction.{compactGroup}
 use Rattle.calls.proofs.Invariant.{Lies, Inv, update, update-other, imaged-update}
@@ -46,17 +45,18 @@ zeros-within b zero = refl
 zeros-within b (suc n) = all-cons (λ c. leb c b) 0 (replicate n 0) (le-leb 0 b (omega arith)) (zeros-within b n)
 
 -- After a format nothing lies anywhere.
-pub format-inv : (d : Device) (x : Lent) → withinLimits d ≡ true → x .state .bytes ≡ stateLength d → Inv (blankState d x) (replicate (spareLength d) nobody) (λ k. []) (λ y. none)
+pub format-inv : (d : Device) → withinLimits d ≡ true → Inv (blankState d) (replicate (spareLength d) nobody) (λ y. none)
 unfolding blankState soundState groupAt met flatten
-format-inv d x h e = record {
+format-inv d h = record {
+  image = λ k. [];
   limits = h;
-  bytes = e;
+  bytes = refl;
   counted = length-replicate (d .M) 0;
   grouped = length-replicate (groupCount d) [];
   spared = length-replicate (spareLength d) nobody;
   sound = and-i _ _ (replicate-sound (d .N) 0 (groupCount d)) (zeros-within (d .B) (d .M));
   imaged = record {
-    entries = λ k l. blank-image d k l;
+    entries = λ k l. subst (λ (c : ℕ). Image d (replicate (spareLength d) nobody) k [] c) (sym (replicate-at (d .M) k 0)) (blank-image d k l);
     count = λ k l. sym (replicate-at (d .M) k 0);
     ascends = λ k l. end;
     logical = λ k l y m. no-elem y m;
@@ -65,7 +65,10 @@ format-inv d x h e = record {
   unplaced = λ y l q. ap (λ (g : Group). met (offsetOf y) (listing g)) (replicate-at {A = Group} (groupCount d) (groupOf y) []);
 }
 
-module _ (s : State) (spare : List ℕ) (image : ℕ → List ℕ) (place : ℕ → Option ℕ) (v : Inv s spare image place) where
+module _ (s : State) (spare : List ℕ) (place : ℕ → Option ℕ) (v : Inv s spare place) where
+  abbrev image : ℕ → List ℕ
+  image = v .image
+
   groups-sound : soundGroups (s .device .N) 0 (s .groups) ≡ true
   unfolding soundState
   groups-sound = and-l _ _ (v .sound)
@@ -92,9 +95,10 @@ module _ (s : State) (spare : List ℕ) (image : ℕ → List ℕ) (place : ℕ 
           ∙ ap (λ (i : ℕ). met o (listing (getD (s .groups) i []))) (sym (eqb-true j k e))
 
   -- A compaction keeps the invariant.
-  pub compact-inv : (k : ℕ) → Inv (compactGroup k s) spare image place
+  pub compact-inv : (k : ℕ) → Inv (compactGroup k s) spare place
   unfolding compactGroup withGroups soundState groupAt
   compact-inv k = record {
+    image = image;
     limits = v .limits;
     bytes = v .bytes;
     counted = v .counted;
@@ -125,9 +129,10 @@ module _ (s : State) (spare : List ℕ) (image : ℕ → List ℕ) (place : ℕ 
 
   -- Erasing a block on which no logical page lies keeps the invariant.
   pub erase-inv : (k : ℕ) → k < s .device .M → ((x p : ℕ) (h : x < s .device .N) (e : place x ≡ some p) → v .placed x p h e .block ≢ k)
-      → Inv (withCounts (set (s .counts) k 0) s) (erase (s .device) k spare) (update k [] image) place
+      → Inv (withCounts (set (s .counts) k 0) s) (erase (s .device) k spare) place
   unfolding withCounts soundState groupAt
   erase-inv k b n = record {
+    image = update k [] image;
     limits = v .limits;
     bytes = v .bytes;
     counted = length-set (s .counts) k 0 ∙ v .counted;
@@ -136,7 +141,7 @@ module _ (s : State) (spare : List ℕ) (image : ℕ → List ℕ) (place : ℕ 
     sound = and-i _ _ groups-sound (counts-set (s .device .B) (s .counts) k 0 (omega arith) counts-within);
     imaged = imaged-update (s .device) (s .counts) spare (erase (s .device) k spare) image k 0 [] (v .imaged)
         (omega (arith, v .counted, b)) (erase-image (s .device) k spare b (v .spared))
-        (λ j o i. erase-keeps (s .device) k j spare (image j) o i) refl end (λ x m. no-elem x m);
+        (λ j c o i. erase-keeps (s .device) k j spare (image j) c o i) refl end (λ x m. no-elem x m);
     placed = λ x p h e. lies x p (v .placed x p h e) (n x p h e);
     unplaced = v .unplaced;
   }

@@ -1,4 +1,5 @@
--- What a collection moves: the logical pages that lie on the victims, each with the page it lies on. Assumes nothing.
+-- What a collection moves, by any test and name that fit the page map: the logical pages that lie on the blocks taken, each with the
+-- page it lies on. Assumes nothing.
 use mathlib.Core.Path.{_≡_, refl, sym, _∙_, ap}
 use mathlib.Core.List.{List, [], _∷_, map}
 use mathlib.Core.Option.{Option, none, some}
@@ -10,119 +11,101 @@ use lib.Dec.{eqb}
 use lib.ListN.{length, getD, length-map}
 use borrow.Author.Tests.{eqb-true}
 use Rattle.model.specs.Lists.{elem}
-use Rattle.model.specs.Device.{Device, pages}
-use Rattle.model.specs.Spare.{middle}
-use Rattle.model.specs.Learning.{Write, logicals, sources}
-use Rattle.model.specs.State.{State, freeBlocks, lowestFree}
+use Rattle.model.specs.Device.{Device}
+use Rattle.model.specs.Learning.{Write, later, logicals, sources}
 use Rattle.model.proofs.Bools.{is-false}
 use Rattle.model.proofs.Lists.{Asc, At, elem-cons, elem-here, elem-there, no-elem, elem-at}
 use Rattle.model.proofs.Counting.{asc-distinct, distinct-index}
-use Rattle.model.proofs.Blocks.{lowestFree-free}
-use Rattle.model.proofs.Limits.{page-inside}
-use Rattle.model.proofs.Sorting.{laterOf, lastSourceOf, sourceOf, sort-asc, sort-elem, sort-source, sort-length, source-at, logicals-length}
-use Rattle.calls.specs.Collection.{copy, victims, blocksOf, pagesOf, moves}
-use Rattle.calls.proofs.Invariant.{Lies, Inv}
-use Rattle.calls.proofs.Found.{image-fits, lies-valid, valid-lies}
-use Rattle.calls.proofs.Writing.{Ready}
-use Rattle.calls.proofs.Victims.{page-taken, taken-page, pages-fit}
+use Rattle.model.proofs.Sorting.{lastSourceOf, sourceOf, sort-asc, sort-elem, sort-source, sort-length, source-at, logicals-length}
+use Rattle.calls.specs.Choice.{Used, victimsBy, copyBy, movesBy, blocksOf, pagesOf}
+use Rattle.calls.proofs.Choosing.{page-taken, taken-page, pages-fit}
+use Rattle.calls.proofs.Naming.{Names}
 
--- p is one of the pages, and its middle entry names x
-record Copied (d : Device) (spare ps : List ℕ) (x p : ℕ) : Type 0 where
-  page : elem p ps ≡ true
-  named : middle d spare p ≡ x
+-- What a block takes: writes that fit it, ascend, and name existing logical pages.
+pub record Ready (d : Device) (ws : List Write) : Type 0 where
+  pub fits : length ws ≤ d .B
+  pub ascends : Asc 0 (logicals ws)
+  pub logical : (x : ℕ) → elem x (logicals ws) ≡ true → x < d .N
 
-module _ (d : Device) (spare : List ℕ) where
-  copied : (ps : List ℕ) (x p : ℕ) → lastSourceOf x (map (copy d spare) ps) ≡ some p → Copied d spare ps x p
-  unfolding lastSourceOf copy laterOf
+module _ (name : ℕ → ℕ) where
+  copied : (ps : List ℕ) (x p : ℕ) → lastSourceOf x (map (copyBy name) ps) ≡ some p → (elem p ps ≡ true) × (name p ≡ x)
+  unfolding lastSourceOf copyBy later
   copied [] x p h = let z : _≡_ {A = ℕ} 0 1 = cc in absurd (omega arith)
-  copied (q ∷ ps) x p h = go (lastSourceOf x (map (copy d spare) ps)) (eqb x (middle d spare q)) refl h (λ j. copied ps x p j)
+  copied (q ∷ ps) x p h = go (lastSourceOf x (map (copyBy name) ps)) (eqb x (name q)) refl h (λ j. copied ps x p j)
     where
-      go : (o : Option ℕ) (t : Bool) → eqb x (middle d spare q) ≡ t → laterOf t q o ≡ some p → (o ≡ some p → Copied d spare ps x p) → Copied d spare (q ∷ ps) x p
-      go (some j) t e k ih = let c = ih k in record { page = elem-there p q ps (c .page); named = c .named }
+      go : (o : Option ℕ) (t : Bool) → eqb x (name q) ≡ t → later t q o ≡ some p → (o ≡ some p → (elem p ps ≡ true) × (name p ≡ x)) → (elem p (q ∷ ps) ≡ true) × (name p ≡ x)
+      go (some j) t e k ih = let c = ih k in (elem-there p q ps (c .0), c .1)
       go none true e k ih =
           let r : q ≡ p = cc in
-          record { page = rw r (elem-here p ps); named = ap (middle d spare) (sym r) ∙ sym (eqb-true x (middle d spare q) e) }
+          (rw r (elem-here p ps), ap name (sym r) ∙ sym (eqb-true x (name q) e))
       go none false e k ih = let z : _≡_ {A = ℕ} 0 1 = cc in absurd (omega arith)
 
-  copies-named : (ps : List ℕ) (p : ℕ) → elem p ps ≡ true → elem (middle d spare p) (logicals (map (copy d spare) ps)) ≡ true
-  unfolding copy logicals
+  copies-named : (ps : List ℕ) (p : ℕ) → elem p ps ≡ true → elem (name p) (logicals (map (copyBy name) ps)) ≡ true
+  unfolding copyBy logicals
   copies-named [] p h = no-elem p h
   copies-named (q ∷ ps) p h = go (elem-cons p q ps h) (λ j. copies-named ps p j)
     where
-      go : (p ≡ q) ⊎ (elem p ps ≡ true) → (elem p ps ≡ true → elem (middle d spare p) (logicals (map (copy d spare) ps)) ≡ true) → elem (middle d spare p) (middle d spare q ∷ logicals (map (copy d spare) ps)) ≡ true
-      go (inl e) ih = rw e (elem-here (middle d spare q) _)
-      go (inr j) ih = elem-there (middle d spare p) (middle d spare q) _ (ih j)
+      go : (p ≡ q) ⊎ (elem p ps ≡ true) → (elem p ps ≡ true → elem (name p) (logicals (map (copyBy name) ps)) ≡ true) → elem (name p) (name q ∷ logicals (map (copyBy name) ps)) ≡ true
+      go (inl e) ih = rw e (elem-here (name q) _)
+      go (inr j) ih = elem-there (name p) (name q) _ (ih j)
 
-module _ (s : State) (spare : List ℕ) (image : ℕ → List ℕ) (place : ℕ → Option ℕ) (v : Inv s spare image place) where
+module _ (d : Device) (place : ℕ → Option ℕ) (valid : ℕ → Bool) (name : ℕ → ℕ) (n : Names (d .N) place valid name) (counts : List ℕ) where
+  -- the blocks taken and the pages moved
+  abbrev vs : List Used
+  vs = victimsBy valid d counts
+
   abbrev mv : List Write
-  mv = moves s spare
-
-  abbrev taken : List ℕ
-  taken = blocksOf (victims s spare)
+  mv = movesBy name vs
 
   moves-asc : Asc 0 (logicals mv)
-  unfolding moves
-  moves-asc = sort-asc (map (copy (s .device) spare) (pagesOf (victims s spare)))
+  unfolding movesBy
+  moves-asc = sort-asc (map (copyBy name) (pagesOf vs))
 
-  source-lies : (x p : ℕ) → sourceOf x mv ≡ some p → (place x ≡ some p) × (elem (p / s .device .B) taken ≡ true) × (x < s .device .N)
-  unfolding moves
+  source-lies : (x p : ℕ) → sourceOf x mv ≡ some p → (place x ≡ some p) × (elem (p / d .B) (blocksOf vs) ≡ true) × (x < d .N)
+  unfolding movesBy
   source-lies x p e =
-      let c : Copied (s .device) spare (pagesOf (victims s spare)) x p = copied (s .device) spare (pagesOf (victims s spare)) x p (sym (sort-source x _) ∙ e) in
-      let t = page-taken s spare image place v p (c .page) in
-      let l = valid-lies s spare image place v p (t .0) in
-      (rw (c .named) at (l .1), t .1, rw (c .named) at (l .0))
+      let c = copied name (pagesOf vs) x p (sym (sort-source x _) ∙ e) in
+      let t = page-taken valid d counts p (c .0) in
+      let l = n .only p (t .0) in
+      (rw (c .1) at (l .1), t .1, rw (c .1) at (l .0))
 
-  -- Move i moves a logical page from the page it lies on, in a victim.
-  pub move-lies : (i : ℕ) → i < length (moves s spare)
-      → (place (getD (logicals (moves s spare)) i 0) ≡ some (getD (sources (moves s spare)) i 0))
-      × (elem (getD (sources (moves s spare)) i 0 / s .device .B) (blocksOf (victims s spare)) ≡ true)
-      × (getD (logicals (moves s spare)) i 0 < s .device .N)
+  -- Move i moves a logical page from the page it lies on, in a block taken.
+  pub move-lies : (i : ℕ) → i < length mv
+      → (place (getD (logicals mv) i 0) ≡ some (getD (sources mv) i 0)) × (elem (getD (sources mv) i 0 / d .B) (blocksOf vs) ≡ true) × (getD (logicals mv) i 0 < d .N)
   move-lies i h = source-lies _ _ (source-at mv moves-asc i h)
 
-  -- A logical page that lies on a victim is moved.
-  pub moved : (x p : ℕ) → x < s .device .N → place x ≡ some p → elem (p / s .device .B) (blocksOf (victims s spare)) ≡ true → elem x (logicals (moves s spare)) ≡ true
-  unfolding moves
-  moved x p h e t =
-      let l : Lies s image x p = v .placed x p h e in
-      let q = lies-valid s spare image place v x p h l in
-      let b : p < pages (s .device) = rw (l .page) (page-inside (s .device) (l .block) (l .slot) (l .inside) (omega (arith, l .written, image-fits s spare image place v (l .block) (l .inside)))) in
-      let c = copies-named (s .device) spare (pagesOf (victims s spare)) p (taken-page s spare image place v p (q .1) t b) in
-      sort-elem x _ ∙ (rw (q .0) at c)
-
-  -- A logical page that isn't moved lies on no victim.
-  pub not-moved : (x p : ℕ) → x < s .device .N → place x ≡ some p → elem x (logicals (moves s spare)) ≡ false → elem (p / s .device .B) (blocksOf (victims s spare)) ≡ false
-  not-moved x p h e n = is-false _ (λ t. true≢false (sym (moved x p h e t) ∙ n))
+  -- A logical page that isn't moved lies on no block taken.
+  pub not-moved : 0 < d .B → (x p : ℕ) → x < d .N → place x ≡ some p → elem x (logicals mv) ≡ false → elem (p / d .B) (blocksOf vs) ≡ false
+  unfolding movesBy
+  not-moved b x p h e m = is-false _ (λ t. true≢false (sym (moved t) ∙ m))
+    where
+      moved : elem (p / d .B) (blocksOf vs) ≡ true → elem x (logicals mv) ≡ true
+      moved t =
+          let q = n .every x p h e in
+          let c = copies-named name (pagesOf vs) p (taken-page valid d counts b p (q .0) t) in
+          sort-elem x _ ∙ (rw (q .1) at c)
 
   -- No more pages are moved than are taken.
-  pub moves-taken : length (moves s spare) ≤ length (pagesOf (victims s spare))
-  unfolding moves
-  moves-taken = omega (arith, sort-length (map (copy (s .device) spare) (pagesOf (victims s spare))), length-map (pagesOf (victims s spare)) (copy (s .device) spare))
+  pub moves-taken : length mv ≤ length (pagesOf vs)
+  unfolding movesBy
+  moves-taken = omega (arith, sort-length (map (copyBy name) (pagesOf vs)), length-map (pagesOf vs) (copyBy name))
 
-  -- The moved pages fit a block.
-  pub moves-fit : length (moves s spare) ≤ s .device .B
-  moves-fit = omega (arith, moves-taken, pages-fit s spare image place v)
-
-  -- Where there is something to move and a free block, the lowest free block can take the moves.
-  pub moves-ready : 1 ≤ length (moves s spare) → 1 ≤ length (freeBlocks 0 (s .counts)) → Ready s (moves s spare) (lowestFree s)
-  moves-ready h f =
-      let k = lowestFree-free s f in
-      record {
-        block = omega (arith, k .0, v .counted);
-        free = k .1;
-        filled = h;
-        fits = moves-fit;
-        ascends = moves-asc;
-        logical = λ x m. below x (elem-at x (logicals mv) m);
-      }
+  -- A block can take the moves.
+  pub moves-ready : Ready d mv
+  moves-ready = record {
+    fits = omega (arith, moves-taken, pages-fit valid d counts);
+    ascends = moves-asc;
+    logical = λ x m. below x (elem-at x (logicals mv) m);
+  }
     where
-      below : (x : ℕ) → At x (logicals mv) → x < s .device .N
+      below : (x : ℕ) → At x (logicals mv) → x < d .N
       below x a = rw (a .here) at (move-lies (a .index) (omega (arith, a .inside, logicals-length mv)) .2)
 
   -- The moves have distinct sources.
-  pub sources-distinct : (i j : ℕ) → i < length (moves s spare) → j < length (moves s spare) → getD (sources (moves s spare)) i 0 ≡ getD (sources (moves s spare)) j 0 → i ≡ j
+  pub sources-distinct : (i j : ℕ) → i < length mv → j < length mv → getD (sources mv) i 0 ≡ getD (sources mv) j 0 → i ≡ j
   sources-distinct i j h k e =
       distinct-index (logicals mv) i j (asc-distinct moves-asc) (omega (arith, logicals-length mv)) (omega (arith, logicals-length mv))
-      (sym (named i h) ∙ ap (middle (s .device) spare) e ∙ named j k)
+      (sym (named i h) ∙ ap name e ∙ named j k)
     where
-      named : (i : ℕ) → i < length mv → middle (s .device) spare (getD (sources mv) i 0) ≡ getD (logicals mv) i 0
-      named i h = let m = move-lies i h in lies-valid s spare image place v _ _ (m .2) (v .placed _ _ (m .2) (m .0)) .0
+      named : (i : ℕ) → i < length mv → name (getD (sources mv) i 0) ≡ getD (logicals mv) i 0
+      named i h = let m = move-lies i h in n .every _ _ (m .2) (m .0) .1

@@ -1,86 +1,81 @@
--- What never refuses a call while the invariant holds: device numbers, the lengths of state and spare area, soundness. And what
--- a lookup then answers. Assumes nothing.
-use mathlib.Core.Path.{_≡_, refl, sym, _∙_, ap, subst}
-use mathlib.Core.List.{List, []}
-use mathlib.Core.Option.{Option, none, some}
+-- While the invariant holds, a call is never refused for device numbers, the lengths of state and spare area, or soundness: its first
+-- refusal is the page map's. Assumes nothing.
+use mathlib.Core.Path.{_≡_, refl, ap}
+use mathlib.Core.List.{List}
+use mathlib.Core.Option.{Option}
 use mathlib.Core.Bool.{Bool, true, false, not, _||_}
-use Prim.Native.Nat.{ℕ, _+_, _<_}
+use Prim.Native.Nat.{ℕ}
 use native.Mathlib.Omega.{arith}
-use lib.ListN.{length}
-use borrow.Author.Tests.{eq-eqb, lt-leb, le-ltb}
-use Rattle.model.specs.Device.{headLength, stateLength, spareLength, firstPage, groupOf}
+use lib.Dec.{eqb}
+use borrow.Author.Tests.{eq-eqb, le-ltb}
+use Rattle.model.specs.Lists.{orElse}
+use Rattle.model.specs.Device.{Device, headLength, stateLength, spareLength, groupOf}
 use Rattle.model.specs.State.{State, groupAt}
 use Rattle.model.specs.Sound.{soundState, soundGroup}
-use Rattle.model.proofs.Bools.{and-l}
+use Rattle.model.proofs.Bools.{and-l, neither}
 use Rattle.model.proofs.SoundGroups.{group-sound}
 use Rattle.calls.specs.Refusals.{firstRefusal, wrongLength, numbersMissing, wrongState, wrongSpare}
-use Rattle.calls.specs.Outcome.{Lent, Answer, Outcome}
-use Rattle.calls.specs.Lookup.{lookup, lookupChecks, seek, answerOf}
-use Rattle.calls.specs.History.{lookupCall, lend, run, Past}
-use Rattle.calls.specs.Demand3.{Right, unwritten, written}
-use Rattle.calls.proofs.Decided.{passes, no-checks, unless-accepts}
+use Rattle.calls.specs.Format.{formatChecks}
+use Rattle.calls.specs.Flush.{flushChecks}
+use Rattle.calls.specs.Lookup.{lookupChecks}
+use Rattle.calls.specs.Collection.{collectChecks}
+use Rattle.calls.specs.Compaction.{compactChecks}
+use Rattle.calls.specs.History.{formatCall, flushCall, lookupCall, collectCall, compactCall, lend}
+use Rattle.calls.specs.PageMap.{PageMap, mapChecks}
+use Rattle.calls.proofs.Refusing.{right-length}
 use Rattle.calls.proofs.Invariant.{Inv}
-use Rattle.calls.proofs.Found.{seek-found, seek-nowhere}
-use Rattle.calls.proofs.Holding.{Holds}
+use Rattle.calls.proofs.Found.{mapOf}
+use Rattle.calls.proofs.Collected.{same-victims, same-moves}
 
--- a slice of the right length doesn't have a wrong one
-pub length-right : (s : List ℕ) (n : ℕ) → length s ≡ n → wrongLength s n ≡ false
-unfolding wrongLength
-length-right s n e = ap not (eq-eqb (length s) n e)
+not-not : (t : Bool) → not (not t) ≡ t
+not-not true = refl
+not-not false = refl
 
-pub neither : (a b : Bool) → a ≡ false → b ≡ false → (a || b) ≡ false
-neither true b e f = e
-neither false b e f = f
+-- A format is refused by the numbers it is given and the two lengths.
+pub format-checks : (d : Device) (s : State) (spare plan erased : List ℕ) (m : PageMap)
+    → firstRefusal (formatChecks d (lend s spare plan erased)) ≡ firstRefusal (mapChecks (not (not (eqb (s .bytes) (stateLength d)) || wrongLength spare (spareLength d))) (formatCall d) m)
+unfolding formatChecks mapChecks lend firstRefusal
+format-checks d s spare plan erased m = rw not-not
 
-module _ (s : State) (spare : List ℕ) (image : ℕ → List ℕ) (place : ℕ → Option ℕ) (v : Inv s spare image place) where
+module _ (s : State) (spare : List ℕ) (place : ℕ → Option ℕ) (v : Inv s spare place) where
+  -- The device numbers are there ..
   pub numbers-there : numbersMissing s ≡ false
   unfolding numbersMissing stateLength headLength
   numbers-there = neither _ _ (le-ltb (s .bytes) headLength (omega (arith, v .bytes))) (ap not (v .limits))
 
+  -- .. state and spare area have the lengths they give ..
   pub state-right : wrongState s ≡ false
   unfolding wrongState
   state-right = ap not (eq-eqb (s .bytes) (stateLength (s .device)) (v .bytes))
 
   pub spare-right : wrongSpare s spare ≡ false
   unfolding wrongSpare
-  spare-right = length-right spare (spareLength (s .device)) (v .spared)
+  spare-right = right-length spare (spareLength (s .device)) (v .spared)
 
-  pub is-sound : not (soundState s) ≡ false
-  is-sound = ap not (v .sound)
-
-  pub group-is-sound : (k : ℕ) → not (soundGroup (s .device .N) k (groupAt s k)) ≡ false
+  -- .. and each group is sound.
+  sound-group : (k : ℕ) → soundGroup (s .device .N) k (groupAt s k) ≡ true
   unfolding soundState groupAt
-  group-is-sound k = ap not (group-sound (s .device .N) k (s .groups) (and-l _ _ (v .sound)))
+  sound-group k = group-sound (s .device .N) k (s .groups) (and-l _ _ (v .sound))
 
-  -- A lookup of a logical page is refused for nothing before it looks.
-  pub lookup-passes : (x : ℕ) (plan erased : List ℕ) → x < s .device .N → firstRefusal (lookupChecks x (lend s spare plan erased)) ≡ none
-  unfolding lookupChecks lend
-  lookup-passes x plan erased h =
-      passes _ _ numbers-there
-      (passes _ _ (neither (wrongState s) (wrongSpare s spare) state-right spare-right)
-      (passes _ _ (lt-leb (s .device .N) x h) (passes _ _ (group-is-sound (groupOf x)) no-checks)))
+  abbrev m : PageMap
+  m = mapOf s place
 
--- While all holds, a lookup of a logical page is accepted and right.
-pub lookup-right : (h : Past) → Holds h → (x : ℕ) → x < h .book .device .N → Right (h .book) x (run (lookupCall x) (h .state) (h .spare) .answer)
-unfolding run lookup answerOf lend
-lookup-right h v x b =
-    subst (λ (o : Outcome). Right (h .book) x (o .answer)) (sym (unless-accepts (lookupChecks x l) l (record { answer = answerOf (seek (l .state) (l .spare) x); after = l }) (lookup-passes (h .state) (h .spare) (v .image) (v .place) (v .inv) x [] [] below)))
-    (go (v .place x) refl)
-  where
-    l : Lent
-    l = lend (h .state) (h .spare) [] []
+  -- A flush refuses first what the map's refuses first ..
+  pub flush-checks : (batch plan erased : List ℕ) → firstRefusal (flushChecks batch (lend s spare plan erased)) ≡ firstRefusal (mapChecks true (flushCall batch plan) m)
+  unfolding flushChecks mapChecks lend firstRefusal orElse
+  flush-checks batch plan erased = rw (numbers-there, state-right, spare-right, v .sound)
 
-    below : x < h .state .device .N
-    below = rw (sym (v .kept .device)) b
+  -- .. and so does a lookup ..
+  pub lookup-checks : (x : ℕ) (plan erased : List ℕ) → firstRefusal (lookupChecks x (lend s spare plan erased)) ≡ firstRefusal (mapChecks true (lookupCall x) m)
+  unfolding lookupChecks mapChecks lend firstRefusal orElse
+  lookup-checks x plan erased = rw (numbers-there, state-right, spare-right, sound-group (groupOf x))
 
-    go : (o : Option ℕ) → v .place x ≡ o → Right (h .book) x (answerOf (seek (h .state) (h .spare) x))
-    go none e =
-        subst (λ (a : Answer). Right (h .book) x a) (sym (ap answerOf (seek-nowhere (h .state) (h .spare) (v .image) (v .place) (v .inv) x below e)))
-        (unwritten _ (v .kept .missing x below e))
-    go (some p) e =
-        let lies = v .inv .placed x p below e in
-        let a = seek-found (h .state) (h .spare) (v .image) (v .place) (v .inv) x p lies in
-        let c = v .kept .present x p below e in
-        let q : ℕ = firstPage (h .state .device) (lies .block) + lies .near in
-        subst (λ (r : Answer). Right (h .book) x r) (sym (ap answerOf (a .sought)))
-        (written p q (a .levels) (c .0) (c .1) (c .2) (λ f. v .kept .once q p (c .0) f (c .2)) (λ g. ap (h .book .carried) g ∙ c .2))
+  -- .. a compaction ..
+  pub compact-checks : (k : ℕ) (plan erased : List ℕ) → firstRefusal (compactChecks k (lend s spare plan erased)) ≡ firstRefusal (mapChecks true (compactCall k) m)
+  unfolding compactChecks mapChecks lend firstRefusal orElse
+  compact-checks k plan erased = rw (numbers-there, state-right, sound-group k)
+
+  -- .. and a collection, whose choice is the map's.
+  pub collect-checks : (plan erased : List ℕ) → firstRefusal (collectChecks (lend s spare plan erased)) ≡ firstRefusal (mapChecks true (collectCall plan erased) m)
+  unfolding collectChecks mapChecks lend firstRefusal orElse
+  collect-checks plan erased = rw (numbers-there, state-right, spare-right, v .sound, same-moves s spare place v, same-victims s spare place v)

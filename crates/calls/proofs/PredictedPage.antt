@@ -9,7 +9,7 @@ use lib.Dec.{ltb, leb, eqb}
 use lib.IntN.{ℤ, pos, negsuc}
 use lib.ListN.{length}
 use Rattle.model.specs.Lists.{orElse}
-use Rattle.model.specs.Device.{Device, pages, groupOf, offsetOf, entriesPerPage}
+use Rattle.model.specs.Device.{Device, pages, groupOf, offsetOf, namesPerPage}
 use Rattle.model.specs.Record.{Record, predict}
 use Rattle.model.specs.Spare.{entry, middle, names, lowestNaming, pageNamed}
 use Rattle.model.specs.Levels.{listing, holder, levelsTo}
@@ -20,8 +20,8 @@ use Rattle.calls.specs.History.{lend, run}
 use Rattle.calls.specs.Demand3.{Predicted, NoOtherPage}
 use Rattle.calls.proofs.Decided.{unless-alike}
 
-module _ (d : Device) (spare spare′ : List ℕ) (p x : ℕ) (same : (j : ℕ) → j < entriesPerPage d → entry d spare p j ≡ entry d spare′ p j) where
-  lowest-same : (j n : ℕ) → j + n ≡ entriesPerPage d → lowestNaming d spare p x j n ≡ lowestNaming d spare′ p x j n
+module _ (d : Device) (spare spare′ : List ℕ) (p x : ℕ) (same : (j : ℕ) → j < namesPerPage d → entry d spare p j ≡ entry d spare′ p j) where
+  lowest-same : (j n : ℕ) → j + n ≡ namesPerPage d → lowestNaming d spare p x j n ≡ lowestNaming d spare′ p x j n
   unfolding lowestNaming names
   lowest-same j zero e = refl
   lowest-same j (suc n) e =
@@ -29,14 +29,14 @@ module _ (d : Device) (spare spare′ : List ℕ) (p x : ℕ) (same : (j : ℕ) 
       ∙ ap (orElse (names d spare′ p x j) (p + j - d .g)) (lowest-same (suc j) n (omega arith))
 
   page-same : pageNamed d spare p x ≡ pageNamed d spare′ p x
-  unfolding pageNamed middle entriesPerPage
+  unfolding pageNamed middle namesPerPage
   page-same =
-      ap (λ (y : ℕ). orElse (eqb y x) p (lowestNaming d spare p x 0 (entriesPerPage d))) (same (d .g) (omega arith))
-      ∙ ap (orElse (eqb (middle d spare′ p) x) p) (lowest-same 0 (entriesPerPage d) (omega arith))
+      ap (λ (y : ℕ). orElse (eqb y x) p (lowestNaming d spare p x 0 (namesPerPage d))) (same (d .g) (omega arith))
+      ∙ ap (orElse (eqb (middle d spare′ p) x) p) (lowest-same 0 (namesPerPage d) (omega arith))
 
 -- What is sought depends on the entries of the predicted page alone.
 seek-same : (s : State) (spare spare′ : List ℕ) (x : ℕ)
-    → ((p j : ℕ) → Predicted s x p → j < entriesPerPage (s .device) → entry (s .device) spare p j ≡ entry (s .device) spare′ p j)
+    → ((p j : ℕ) → Predicted s x p → j < namesPerPage (s .device) → entry (s .device) spare p j ≡ entry (s .device) spare′ p j)
     → seek s spare x ≡ seek s spare′ x
 unfolding seek soughtBy soughtAt
 seek-same s spare spare′ x same = go (holder (offsetOf x) (listing (groupAt s (groupOf x)))) refl

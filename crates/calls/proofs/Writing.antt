@@ -20,10 +20,10 @@ use Rattle.model.specs.Levels.{Group, listing, takeIn, takeInAll}
 use Rattle.model.specs.State.{State, withCounts, withGroups, groupAt}
 use Rattle.model.specs.Sound.{soundState, soundGroups, soundRecord}
 use Rattle.model.proofs.Bools.{and-l, and-r, and-i, all-head, all-tail, all-cons}
-use Rattle.model.proofs.Lists.{Asc, elem-getD}
+use Rattle.model.proofs.Lists.{elem-getD}
 use Rattle.model.proofs.Limits.{limits, group-inside}
 use Rattle.model.proofs.SpareArea.{length-programBlock}
-use Rattle.model.proofs.Image.{programBlock-image, programBlock-keeps}
+use Rattle.model.proofs.Image.{Image, programBlock-image, programBlock-keeps}
 use Rattle.model.proofs.Line.{met, overlay}
 use Rattle.model.proofs.Order.{AllWithin, sound-within}
 use Rattle.model.proofs.TakeIn.{takeIn-met, takeInAll-length, takeInAll-at}
@@ -33,7 +33,10 @@ use Rattle.model.proofs.Sorting.{logicals-length}
 use Rattle.model.proofs.Learned.{records-sound, recordsFor-length}
 use Rattle.model.proofs.Hits.{Hit, learn-hit, learn-miss}
 use Rattle.calls.specs.Flush.{writeState}
-use Rattle.calls.proofs.Invariant.{Lies, Inv, update, update-here, update-other, imaged-update, spot, Spot, elsewhere, there, spot-view}
+use Rattle.calls.specs.PageMap.{spot}
+use Rattle.calls.proofs.Moves.{Ready}
+use Rattle.calls.proofs.Placing.{Spot, elsewhere, there, spot-view}
+use Rattle.calls.proofs.Invariant.{Lies, Inv, update, update-here, update-other, imaged-update}
 
 -- a count within the bound keeps all counts within it
 pub counts-set : (b : ℕ) (cs : List ℕ) (k n : ℕ) → n ≤ b → all (λ c. leb c b) cs ≡ true → all (λ c. leb c b) (set cs k n) ≡ true
@@ -47,16 +50,11 @@ sound-all-within : (N k : ℕ) (rs : List Record) → all (soundRecord N k) rs �
 sound-all-within N k [] h = tt
 sound-all-within N k (r ∷ rs) h = (sound-within N k r (all-head (soundRecord N k) r rs h), sound-all-within N k rs (all-tail (soundRecord N k) r rs h))
 
--- What a block to be written is given: it exists and is free; the writes ascend, fit a block, and name existing logical pages.
-pub record Ready (s : State) (ws : List Write) (k : ℕ) : Type 0 where
-  pub block : k < s .device .M
-  pub free : getD (s .counts) k 0 ≡ 0
-  pub filled : 1 ≤ length ws
-  pub fits : length ws ≤ s .device .B
-  pub ascends : Asc 0 (logicals ws)
-  pub logical : (x : ℕ) → elem x (logicals ws) ≡ true → x < s .device .N
+module _ (s : State) (spare : List ℕ) (place : ℕ → Option ℕ) (v : Inv s spare place) (ws : List Write) (k : ℕ) (r : Ready (s .device) ws)
+    (block : k < s .device .M) (free : getD (s .counts) k 0 ≡ 0) where
+  abbrev image : ℕ → List ℕ
+  image = v .image
 
-module _ (s : State) (spare : List ℕ) (image : ℕ → List ℕ) (place : ℕ → Option ℕ) (v : Inv s spare image place) (ws : List Write) (k : ℕ) (r : Ready s ws k) where
   abbrev w : List ℕ
   w = logicals ws
 
@@ -111,7 +109,7 @@ module _ (s : State) (spare : List ℕ) (image : ℕ → List ℕ) (place : ℕ 
       (sound-levels (s .device .N) (groupOf x) g (group-sound (s .device .N) (groupOf x) (s .groups) groups-were-sound))
 
   was-empty : length (image k) ≡ 0
-  was-empty = v .imaged .count k (r .block) ∙ r .free
+  was-empty = v .imaged .count k block ∙ free
 
   -- a block in which something lay is another one
   other-block : (j i : ℕ) → i < length (image j) → j ≢ k
@@ -158,7 +156,7 @@ module _ (s : State) (spare : List ℕ) (image : ℕ → List ℕ) (place : ℕ 
             slot = i;
             near = h .page - first;
             line = h .line;
-            inside = r .block;
+            inside = block;
             page = refl;
             written = rw here b;
             carries = rw here refl;
@@ -170,9 +168,10 @@ module _ (s : State) (spare : List ℕ) (image : ℕ → List ℕ) (place : ℕ 
           }
 
   -- Writing block k keeps the invariant.
-  pub write-inv : Inv afterWrite (programBlock (s .device) w k spare) image′ (λ x. spot x first w (place x))
+  pub write-inv : Inv afterWrite (programBlock (s .device) w k spare) (λ x. spot x first w (place x))
   unfolding writeState withGroups withCounts
   write-inv = record {
+    image = image′;
     limits = v .limits;
     bytes = v .bytes;
     counted = length-set (s .counts) k (length ws) ∙ v .counted;
@@ -180,8 +179,8 @@ module _ (s : State) (spare : List ℕ) (image : ℕ → List ℕ) (place : ℕ 
     spared = length-programBlock (s .device) w k spare ∙ v .spared;
     sound = state-sound;
     imaged = imaged-update (s .device) (s .counts) spare (programBlock (s .device) w k spare) image k (length ws) w (v .imaged)
-        (omega (arith, v .counted, r .block)) (programBlock-image (s .device) w k spare (r .block) fitsBlock (v .spared))
-        (λ j n i. programBlock-keeps (s .device) w k j spare (image j) fitsBlock n i) size (r .ascends) (r .logical);
+        (omega (arith, v .counted, block)) (subst (λ (c : ℕ). Image (s .device) (programBlock (s .device) w k spare) k w c) size (programBlock-image (s .device) w k spare block fitsBlock (v .spared)))
+        (λ j c n i. programBlock-keeps (s .device) w k j spare (image j) c fitsBlock n i) size (r .ascends) (r .logical);
     placed = λ x p h e. placed-of x p h (spot x first w (place x)) (spot-view x first w (place x)) e;
     unplaced = λ x h e. unplaced-of x h (spot x first w (place x)) (spot-view x first w (place x)) e;
   }

@@ -1,29 +1,44 @@
 -- Document 01, 'The book': what each page carries, and the last write to each logical page. Assumes nothing.
-use mathlib.Core.List.{List, [], _∷_}
+use mathlib.Core.List.{List}
 use mathlib.Core.Option.{Option, none, some}
 use mathlib.Core.Bool.{Bool, true, false, _&&_}
 use Prim.Native.Nat.{ℕ, suc, _+_, _-_, _/_}
-use lib.Dec.{ltb, leb, eqb}
+use lib.Dec.{ltb, leb}
 use lib.ListN.{getD}
 use Rattle.model.specs.Lists.{elem}
 use Rattle.model.specs.Device.{Device}
+use Rattle.model.specs.Learning.{latest}
 
 -- "a write (a call's place in the list and an arrival index)"
 pub record Arrival : Type 0 where
   pub call : ℕ
   pub index : ℕ
 
--- "For each page it holds what the page carries: a write .. or nothing." Beside it the last write to each logical page, the
+-- What befell a logical page last, since the last accepted format: nothing yet, or a write.
+pub data Event : Type 0 where
+  nothing : Event
+  write : Arrival → Event
+
+-- the write that it is, if it is one
+unfoldable pub writeOf : Event → Option Arrival
+writeOf nothing = none
+writeOf (write w) = some w
+
+-- "For each page it holds what the page carries: a write .. or nothing." Beside it the last event of each logical page, the
 -- number of calls so far, and the device numbers that the last accepted format was given.
 pub record Book : Type 0 where
   pub calls : ℕ
   pub device : Device
   pub carried : ℕ → Option Arrival
-  pub last : ℕ → Option Arrival
+  pub last : ℕ → Event
+
+-- "The last write to a logical page"
+abbrev pub lastWrite : Book → ℕ → Option Arrival
+lastWrite b x = writeOf (b .last x)
 
 -- before any call
 unfoldable pub blankBook : Book
-blankBook = record { calls = 0; device = record { M = 0; B = 0; N = 0; g = 0 }; carried = λ p. none; last = λ x. none }
+blankBook = record { calls = 0; device = record { M = 0; B = 0; N = 0; g = 0 }; carried = λ p. none; last = λ x. nothing }
 
 -- What the book is fed of a call: "the calls' arguments and answers, plan and erased list included, and nothing from state or
 -- spare area". An accepted format with the device numbers it was given; an accepted flush with its batch, first page, count
@@ -51,28 +66,17 @@ carriedCopy p n plan old q = elim (among p n q) [ true ↦ old (getD plan (q - p
 unfoldable pub carriedErased : ℕ → List ℕ → (ℕ → Option Arrival) → ℕ → Option Arrival
 carriedErased B blocks old q = elim (elem (q / B) blocks) [ true ↦ none | false ↦ old q ]
 
--- of an arrival at index i and later ones, the latest
-unfoldable pub later : Bool → ℕ → Option ℕ → Option ℕ
-later t i (some j) = some j
-later true i none = some i
-later false i none = none
-
--- the index of the latest arrival of x in a batch, whose first index is i
-unfoldable pub latest : ℕ → ℕ → List ℕ → Option ℕ
-latest x i [] = none
-latest x i (y ∷ l) = later (eqb x y) i (latest x (suc i) l)
-
 -- "The last write to a logical page is its latest arrival in an accepted flush since the last accepted format."
-unfoldable pub lastOr : ℕ → Option ℕ → Option Arrival → Option Arrival
+unfoldable pub lastOr : ℕ → Option ℕ → Event → Event
 lastOr c none old = old
-lastOr c (some i) old = some (record { call = c; index = i })
+lastOr c (some i) old = write (record { call = c; index = i })
 
-unfoldable pub lastFlush : ℕ → List ℕ → (ℕ → Option Arrival) → ℕ → Option Arrival
+unfoldable pub lastFlush : ℕ → List ℕ → (ℕ → Event) → ℕ → Event
 lastFlush c batch old x = lastOr c (latest x 0 batch) (old x)
 
 -- the book after one more call
 unfoldable pub enter : Entry → Book → Book
-enter (formatEntry d) b = record { calls = suc (b .calls); device = d; carried = λ p. none; last = λ x. none }
+enter (formatEntry d) b = record { calls = suc (b .calls); device = d; carried = λ p. none; last = λ x. nothing }
 enter (flushEntry batch p n plan) b = record {
   calls = suc (b .calls);
   device = b .device;

@@ -1,5 +1,5 @@
--- Demand 3, whole: one claim about every list of calls, made of any machine that runs them. There are two: the definitions
--- themselves (`definitions`, below), and the functions on lent bytes by their contracts (crates/history). Assumes nothing.
+-- Demand 3, whole: one claim about every list of calls, made of any machine that runs them. There are three: the page map, the
+-- definitions, and the functions on lent bytes by their contracts (crates/history). Assumes nothing.
 use mathlib.Core.Path.{_≡_}
 use mathlib.Core.List.{List}
 use mathlib.Core.Option.{none, some}
@@ -10,23 +10,29 @@ use lib.Dec.{ltb}
 use lib.IntN.{pos}
 use lib.ListN.{length}
 use Rattle.model.specs.Lists.{all}
-use Rattle.model.specs.Device.{Device, groupOf, offsetOf, entriesPerPage}
+use Rattle.model.specs.Device.{Device, groupOf, offsetOf, namesPerPage}
 use Rattle.model.specs.Record.{Record, predict}
 use Rattle.model.specs.Spare.{entry}
 use Rattle.model.specs.Levels.{listing, holder}
 use Rattle.model.specs.State.{State, freeBlocks, groupAt}
 use Rattle.calls.specs.Refusals.{notSound, notNamed, noFreeBlock}
 use Rattle.calls.specs.Outcome.{Answer, found, notWritten, refused, accepted}
-use Rattle.calls.specs.Book.{Arrival, Book}
+use Rattle.calls.specs.Book.{Arrival, Book, lastWrite}
 use Rattle.calls.specs.History.{Call, formatCall, flushCall, lookupCall, collectCall, compactCall, agreeCall, run, Past, step}
+use Rattle.calls.specs.PageMap.{MapPast, MapMakes}
 
--- A machine: its situations, each with the state and the spare area as they are read and the book so far; and what it does: a call
--- made in a situation gives an answer and leads to the next situation. So "each call gets the state and the spare area as the last
--- one left them, nobody else changes the two meanwhile".
+-- A machine: its situations, each with the book so far and the number of free blocks; and what it does: a call made in a situation
+-- gives an answer and leads to the next situation. So "each call gets the state and the spare area as the last one left them, nobody
+-- else changes the two meanwhile".
 pub record Machine : Type 1 where
   pub Situation : Type 0
-  pub past : Situation → Past
+  pub book : Situation → Book
+  pub free : Situation → ℕ
   pub Makes : Situation → Call → Answer → Situation → Type 0
+
+-- The page map as a machine.
+abbrev pub pageMaps : Machine
+pageMaps = record { Situation = MapPast; book = λ h. h .book; free = λ h. length (freeBlocks 0 (h .map .counts)); Makes = MapMakes }
 
 -- What a call of the definitions does.
 pub record Defined (h : Past) (c : Call) (a : Answer) (h′ : Past) : Type 0 where
@@ -35,16 +41,16 @@ pub record Defined (h : Past) (c : Call) (a : Answer) (h′ : Past) : Type 0 whe
 
 -- The definitions as a machine.
 abbrev pub definitions : Machine
-definitions = record { Situation = Past; past = λ h. h; Makes = Defined }
+definitions = record { Situation = Past; book = λ h. h .book; free = λ h. length (freeBlocks 0 (h .state .counts)); Makes = Defined }
 
 -- A lookup's answer for x is right by the book.
 pub data Right (b : Book) (x : ℕ) : Answer → Type 0 where
   -- "or says 'not written', this exactly when there was no write since the last accepted format"
-  unwritten : (levels : ℕ) → b .last x ≡ none → Right b x (notWritten levels)
+  unwritten : (levels : ℕ) → lastWrite b x ≡ none → Right b x (notWritten levels)
   -- "finds the page that carries the last write to it, with one flash read where the prediction is right and two where it
   -- isn't": "its prediction is right where the predicted page carries the last write", which is exactly where it is the answered
   -- page, so that `reads` counts one there and two elsewhere
-  written : (page predicted levels : ℕ) (w : Arrival) → b .last x ≡ some w → b .carried page ≡ some w
+  written : (page predicted levels : ℕ) (w : Arrival) → lastWrite b x ≡ some w → b .carried page ≡ some w
       → (b .carried predicted ≡ some w → predicted ≡ page) → (predicted ≡ page → b .carried predicted ≡ some w)
       → Right b x (found page predicted levels)
 
@@ -72,10 +78,6 @@ onDevice (compactCall k) = true
 onDevice (agreeCall s spare s′ spare′) = false
 
 module _ (m : Machine) where
-  -- the machine does what the definitions say
-  abbrev pub Follows : Type 0
-  Follows = (h : m .Situation) (c : Call) (a : Answer) (h′ : m .Situation) → m .Makes h c a h′ → Defined (m .past h) c a (m .past h′)
-
   -- a list of calls, "refused ones included", leads from one situation to another
   pub data Leads : m .Situation → m .Situation → Type 0 where
     nothing : (h : m .Situation) → Leads h h
@@ -112,29 +114,37 @@ module _ (m : Machine) where
   pub record Demanded (h : m .Situation) : Type 0 where
     -- "and for every logical page: after the list a lookup finds the page that carries the last write to it, .. or says 'not
     -- written'"; "lookup of every logical page below N is accepted"
-    pub lookups : (x : ℕ) → x < m .past h .book .device .N
-        → (a : Answer) (h′ : m .Situation) → m .Makes h (lookupCall x) a h′ → Right (m .past h .book) x a
+    pub lookups : (x : ℕ) → x < m .book h .device .N
+        → (a : Answer) (h′ : m .Situation) → m .Makes h (lookupCall x) a h′ → Right (m .book h) x a
     -- "the page that carries the last write": there is one
-    pub only : (x p q : ℕ) (w : Arrival) → m .past h .book .last x ≡ some w → m .past h .book .carried p ≡ some w
-        → m .past h .book .carried q ≡ some w → p ≡ q
+    pub only : (x p q : ℕ) (w : Arrival) → lastWrite (m .book h) x ≡ some w → m .book h .carried p ≡ some w
+        → m .book h .carried q ≡ some w → p ≡ q
     -- a flush that fits is accepted; or it is refused 6, and then fewer than two blocks are free
-    pub flushes : (batch plan : List ℕ) → Fits (m .past h .book .device) batch plan
+    pub flushes : (batch plan : List ℕ) → Fits (m .book h .device) batch plan
         → (a : Answer) (h′ : m .Situation) → m .Makes h (flushCall batch plan) a h′
-        → (accepted a ≡ true) ⊎ ((a ≡ refused noFreeBlock) × (length (freeBlocks 0 (m .past h .state .counts)) < 2))
+        → (accepted a ≡ true) ⊎ ((a ≡ refused noFreeBlock) × (m .free h < 2))
     -- "And a flush refused for want of a free block is accepted after one collection"
     pub helps : (batch plan : List ℕ) (h′ : m .Situation) → m .Makes h (flushCall batch plan) (refused noFreeBlock) h′
-        → Helped (m .past h .book .device) batch h′
+        → Helped (m .book h .device) batch h′
     -- "From a format, 3, 7 and 6 here", in a collection, "never occur."
     pub never : (c : Call) (a : Answer) (h′ : m .Situation) → onDevice c ≡ true → m .Makes h c a h′
         → (a ≢ refused notSound) × (a ≢ refused notNamed)
     pub room : (plan erased : List ℕ) (a : Answer) (h′ : m .Situation) → m .Makes h (collectCall plan erased) a h′ → a ≢ refused noFreeBlock
-    -- nor is an agreement of this state with another that came from a format refused, wherever it is made
-    pub agreements : (g : m .Situation) → FromFormat g → (i : m .Situation) (a : Answer) (i′ : m .Situation)
-        → m .Makes i (agreeCall (m .past h .state) (m .past h .spare) (m .past g .state) (m .past g .spare)) a i′ → accepted a ≡ true
 
-  -- Demand 3.
-  abbrev pub Demand3 : Type 0
-  Demand3 = (h : m .Situation) → FromFormat h → Demanded h
+  -- Demand 3 of the calls on the device, after every such list.
+  abbrev pub AfterFormat : Type 0
+  AfterFormat = (h : m .Situation) → FromFormat h → Demanded h
+
+-- Demand 3, of a machine that has states and spare areas and so knows an agreement of two situations.
+pub record Demand3 (m : Machine) (agreement : m .Situation → m .Situation → Call) : Type 0 where
+  pub after : AfterFormat m
+  -- nor is an agreement of two states that both come from formats ever refused, wherever it is made
+  pub agreements : (g h : m .Situation) → FromFormat m g → FromFormat m h → (i : m .Situation) (a : Answer) (i′ : m .Situation)
+      → m .Makes i (agreement g h) a i′ → accepted a ≡ true
+
+-- the agreement of two states with their spare areas
+abbrev pub agreementOf : Past → Past → Call
+agreementOf g h = agreeCall (g .state) (g .spare) (h .state) (h .spare)
 
 -- the page that the first record having x's offset as a member predicts for it
 pub record Predicted (s : State) (x p : ℕ) : Type 0 where
@@ -146,5 +156,5 @@ pub record Predicted (s : State) (x p : ℕ) : Type 0 where
 -- entries at the predicted page give the same lookup
 abbrev pub NoOtherPage : Type 0
 NoOtherPage = (s : State) (spare spare′ : List ℕ) (x : ℕ) → length spare ≡ length spare′
-    → ((p j : ℕ) → Predicted s x p → j < entriesPerPage (s .device) → entry (s .device) spare p j ≡ entry (s .device) spare′ p j)
+    → ((p j : ℕ) → Predicted s x p → j < namesPerPage (s .device) → entry (s .device) spare p j ≡ entry (s .device) spare′ p j)
     → run (lookupCall x) s spare .answer ≡ run (lookupCall x) s spare′ .answer

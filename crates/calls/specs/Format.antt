@@ -18,18 +18,13 @@ formatChecks d x =
     ∷ []
 
 -- "Format writes M, B, N, g, frees all blocks, empties all groups and fills every spare entry with 4,294,967,295."
-unfoldable pub blankState : Device → Lent → State
-blankState d x = record {
-  bytes = x .state .bytes;
-  device = d;
-  counts = replicate (d .M) 0;
-  groups = replicate (groupCount d) [];
-}
+unfoldable pub blankState : Device → State
+blankState d = record { bytes = stateLength d; device = d; counts = replicate (d .M) 0; groups = replicate (groupCount d) [] }
 
 unfoldable pub formatDone : Device → Lent → Outcome
 formatDone d x = record {
   answer = formatted;
-  after = record { state = blankState d x; spare = replicate (spareLength d) nobody; plan = x .plan; erased = x .erased };
+  after = record { state = blankState d; spare = replicate (spareLength d) nobody; plan = x .plan; erased = x .erased };
 }
 
 unfoldable pub format : Device → Lent → Outcome

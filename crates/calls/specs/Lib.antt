@@ -3,9 +3,11 @@ pub mod Outcome
 pub mod Format
 pub mod Flush
 pub mod Lookup
+pub mod Choice
 pub mod Collection
 pub mod Compaction
 pub mod Agreement
 pub mod Book
 pub mod History
+pub mod PageMap
 pub mod Demand3

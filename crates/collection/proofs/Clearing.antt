@@ -11,7 +11,8 @@ use Rattle.model.specs.State.{State, withCounts}
 use Rattle.model.proofs.Sorting.{logicals-length}
 use Rattle.calls.specs.Outcome.{Lent, collected}
 use Rattle.calls.specs.Flush.{writeState, writeBlock}
-use Rattle.calls.specs.Collection.{victims, blocksOf, moves, moveAll, eraseBlock, eraseBlocks, listErased, firstMoved, collectDone}
+use Rattle.calls.specs.Choice.{blocksOf}
+use Rattle.calls.specs.Collection.{victims, moves, moveAll, eraseBlock, eraseBlocks, listErased, firstMoved, collectDone}
 use Rattle.calls.specs.History.{lend}
 use Rattle.batch.proofs.SortStores.{drop-next}
 use Rattle.device.specs.Shaped.{Shaped}

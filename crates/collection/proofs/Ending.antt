@@ -13,9 +13,11 @@ use Rattle.model.specs.State.{State, freeBlocks}
 use Rattle.model.specs.Sound.{soundState, isEmpty}
 use Rattle.calls.specs.Refusals.{Refusal, badNumbers, badLength, notSound, noFreeBlock, nothingToGain, Check, _when_, firstRefusal, numbersMissing, wrongState, wrongSpare, wrongLength}
 use Rattle.calls.specs.Outcome.{Lent, Answer, number, accepted, refused, Outcome}
-use Rattle.calls.specs.Collection.{Used, victims, pagesOf, moves, noGain, collectChecks, collectDone, collect}
+use Rattle.calls.specs.Choice.{Used, pagesOf, noGain}
+use Rattle.calls.specs.Collection.{victims, moves, collectChecks, collectDone, collect}
 use Rattle.calls.specs.History.{collectCall, lend, run}
-use Rattle.calls.proofs.Decided.{unless-accepts, no-checks}
+use Rattle.calls.proofs.Decided.{unless-accepts}
+use Rattle.calls.proofs.Refusing.{stops, goes-on, right-length, wrong-length, no-checks}
 use Rattle.spare.specs.Read.{numbersOf}
 use Rattle.spare.specs.declared.Numbers.{Numbers}
 use Rattle.device.specs.declared.answers.Refusal as code
@@ -26,7 +28,7 @@ use Rattle.device.specs.Reading.{readState}
 use Rattle.device.specs.Shaped.{Shaped, Passed}
 use Rattle.device.specs.Opening.{stateChecks}
 use Rattle.device.specs.Ran.{Ran}
-use Rattle.device.proofs.Refusing.{stops, goes-on, right-length, wrong-length, ran-refused, numbers-there, state-right, not-opened}
+use Rattle.device.proofs.Refusing.{ran-refused, numbers-there, state-right, not-opened}
 use Rattle.collection.specs.Admitting.{Admits}
 
 -- What the checks before any counting answered: the device, or the refusal.

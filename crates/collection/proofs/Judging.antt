@@ -20,6 +20,7 @@ use Rattle.model.proofs.Bools.{and-l}
 use Rattle.model.proofs.Limits.{limits, page-inside}
 use Rattle.model.proofs.SoundGroups.{group-sound}
 use Rattle.calls.specs.Lookup.{at, seek}
+use Rattle.calls.specs.Choice.{usedBy}
 use Rattle.calls.specs.Collection.{gives, valid, usedBlock}
 use Rattle.batch.proofs.SortStores.{drop-next}
 use Rattle.spare.proofs.Sizes.{page-small}
@@ -82,7 +83,7 @@ module _ (d : Device) (s : State) (spare : List ℕ) (v : Passed d s spare) wher
 
   -- From a block's first page on they are all its valid pages, and behind its last page there is none.
   pub valid-first : (k : ℕ) → validFrom d s spare k 0 ≡ usedBlock s spare k .pages
-  unfolding validFrom usedBlock firstPage
+  unfolding validFrom usedBy firstPage
   valid-first k =
       let n : d .B - 0 ≡ d .B = omega arith in
       let z : k * d .B + 0 ≡ k * d .B = omega arith in

@@ -12,23 +12,24 @@ use Rattle.model.specs.Lists.{all, elem, distinct, ascending, store}
 use Rattle.model.specs.Device.{Device, pages, firstPage}
 use Rattle.model.specs.Spare.{middle, programBlock}
 use Rattle.model.specs.Learning.{Write, sort, logicals, sources}
-use Rattle.model.specs.State.{State, freeBlocks, lowestFree}
-use Rattle.model.proofs.Lists.{of-asc, length-store}
-use Rattle.model.proofs.Blocks.{lowestFree-free}
+use Rattle.model.specs.State.{State, freeBlocks, lowestFree, lowestIn}
+use Rattle.model.proofs.Lists.{all-each, of-asc, length-store}
+use Rattle.model.proofs.Counting.{from}
+use Rattle.model.proofs.Blocks.{lowest-free}
 use Rattle.model.proofs.Limits.{limits}
 use Rattle.model.proofs.Sorting.{sort-asc, sort-elem, logicals-length, sources-length}
 use Rattle.calls.specs.Outcome.{Lent}
 use Rattle.calls.specs.Flush.{writeState, writeBlock}
-use Rattle.calls.specs.Collection.{copy, victims, blocksOf, pagesOf, moves, moveAll, firstMoved}
+use Rattle.calls.specs.Choice.{blocksOf, pagesOf, copyBy, movesBy, firstOf}
+use Rattle.calls.specs.Collection.{valid, victims, moves, moveAll, firstMoved}
 use Rattle.calls.specs.History.{lend}
-use Rattle.calls.proofs.Gain.{from}
+use Rattle.calls.proofs.Choosing.{pages-fit}
 use Rattle.batch.specs.Keys.{writes, rising}
 use Rattle.batch.proofs.SortDistinct.{distinct-length, writes-rising}
 use Rattle.device.proofs.Places.{small, pages-small}
 use Rattle.device.specs.Shaped.{Passed}
-use Rattle.collection.proofs.Chosen.{chosen-fit}
 use Rattle.collection.proofs.Gathering.{gathered, front}
-use Rattle.collection.proofs.Taken.{all-of, taken-again, taken-named, taken-named-once, taken-in}
+use Rattle.collection.proofs.Taken.{taken-again, taken-named, taken-named-once, taken-in}
 
 -- a store over a shorter one
 store-over : (s xs ys : List ℕ) → length xs ≤ length ys → store (store s 0 xs) 0 ys ≡ store s 0 ys
@@ -39,15 +40,15 @@ store-over (a ∷ s) (x ∷ xs) [] h = absurd (let z : ⊥ = omega arith in z)
 store-over (a ∷ s) (x ∷ xs) (y ∷ ys) h = ap (λ (l : List ℕ). y ∷ l) (store-over s xs ys (omega arith))
 
 -- copies, by their logical pages and their sources
-copies : (d : Device) (spare ps : List ℕ) → writes (map (middle d spare) ps) ps ≡ map (copy d spare) ps
-unfolding writes copy
-copies d spare [] = refl
-copies d spare (p ∷ ps) = ap (λ (l : List Write). record { logical = middle d spare p; source = p } ∷ l) (copies d spare ps)
+copies : (name : ℕ → ℕ) (ps : List ℕ) → writes (map name ps) ps ≡ map (copyBy name) ps
+unfolding writes copyBy
+copies name [] = refl
+copies name (p ∷ ps) = ap (λ (l : List Write). record { logical = name p; source = p } ∷ l) (copies name ps)
 
-copies-named : (d : Device) (spare ps : List ℕ) → logicals (map (copy d spare) ps) ≡ map (middle d spare) ps
-unfolding logicals copy
-copies-named d spare [] = refl
-copies-named d spare (p ∷ ps) = ap (λ (l : List ℕ). middle d spare p ∷ l) (copies-named d spare ps)
+copies-named : (name : ℕ → ℕ) (ps : List ℕ) → logicals (map (copyBy name) ps) ≡ map name ps
+unfolding logicals copyBy
+copies-named name [] = refl
+copies-named name (p ∷ ps) = ap (λ (l : List ℕ). name p ∷ l) (copies-named name ps)
 
 -- writes are what their two lists give
 writes-again : (ws : List Write) → writes (logicals ws) (sources ws) ≡ ws
@@ -58,31 +59,31 @@ writes-again (w ∷ ws) = ap (λ (l : List Write). w ∷ l) (writes-again ws)
 module _ (s : State) (spare : List ℕ) where
   -- As many are moved as are taken.
   pub moves-count : length (moves s spare) ≡ length (pagesOf (victims s spare))
-  unfolding moves
+  unfolding movesBy
   moves-count =
-      distinct-length (map (copy (s .device) spare) (pagesOf (victims s spare)))
-      (ap distinct (copies-named (s .device) spare (pagesOf (victims s spare))) ∙ taken-named-once s spare)
-      ∙ length-map (pagesOf (victims s spare)) (copy (s .device) spare)
+      distinct-length (map (copyBy (middle (s .device) spare)) (pagesOf (victims s spare)))
+      (ap distinct (copies-named (middle (s .device) spare) (pagesOf (victims s spare))) ∙ taken-named-once s spare)
+      ∙ length-map (pagesOf (victims s spare)) (copyBy (middle (s .device) spare))
 
   moves-ascend : ascending (logicals (moves s spare)) ≡ true
-  unfolding moves
-  moves-ascend = of-asc _ (sort-asc (map (copy (s .device) spare) (pagesOf (victims s spare))))
+  unfolding movesBy
+  moves-ascend = of-asc _ (sort-asc (map (copyBy (middle (s .device) spare)) (pagesOf (victims s spare))))
 
   -- what is named by a page that is taken is below N
   named-below : (x : ℕ) → elem x (map (middle (s .device) spare) (pagesOf (victims s spare))) ≡ true → x < s .device .N
   named-below x m =
       let r = from (middle (s .device) spare) (pagesOf (victims s spare)) x m in
-      rw (r .gives) at (taken-named s spare (r .page) (r .among))
+      rw (r .gives) at (taken-named s spare (r .source) (r .among))
 
   moves-logical : all (λ x. ltb x (s .device .N)) (logicals (moves s spare)) ≡ true
-  unfolding moves
-  moves-logical = all-of (λ x. ltb x (s .device .N)) _ (λ x m.
-      lt-ltb x (s .device .N) (named-below x (ap (elem x) (sym (copies-named (s .device) spare (pagesOf (victims s spare)))) ∙ sym (sort-elem x _) ∙ m)))
+  unfolding movesBy
+  moves-logical = all-each (λ x. ltb x (s .device .N)) _ (λ x m.
+      lt-ltb x (s .device .N) (named-below x (ap (elem x) (sym (copies-named (middle (s .device) spare) (pagesOf (victims s spare)))) ∙ sym (sort-elem x _) ∙ m)))
 
 module _ (d : Device) (s : State) (spare : List ℕ) (v : Passed d s spare) where
   -- what is taken fits a block
   room : length (pagesOf (victims s spare)) ≤ d .B
-  room = omega (arith, chosen-fit s spare, ap (λ (e : Device). e .B) (v .shape .numbers))
+  room = omega (arith, pages-fit (valid s spare) (s .device) (s .counts), ap (λ (e : Device). e .B) (v .shape .numbers))
 
   -- what the taken blocks' numbers gather is what is taken
   gathered-is : (bs : List ℕ) → bs ≡ blocksOf (victims s spare) → gathered s spare bs ≡ pagesOf (victims s spare)
@@ -143,17 +144,17 @@ module _ (d : Device) (s : State) (spare : List ℕ) (v : Passed d s spare) wher
       omega (arith, counts, few),
       long-names,
       long-froms,
-      ap (all (λ y. ltb y 1048576)) front-names ∙ all-of (λ y. ltb y 1048576) _ small-name,
-      ap (all (λ y. ltb y 1048576)) front-froms ∙ all-of (λ y. ltb y 1048576) taken small-from,
+      ap (all (λ y. ltb y 1048576)) front-names ∙ all-each (λ y. ltb y 1048576) _ small-name,
+      ap (all (λ y. ltb y 1048576)) front-froms ∙ all-each (λ y. ltb y 1048576) taken small-from,
       writes-rising n ps′ ss′ long-names long-froms (ap distinct front-names ∙ taken-named-once s spare),
     )
 
     are : sort (writes (take n ps′) (take n ss′)) ≡ moves s spare
-    unfolding moves
+    unfolding movesBy
     are =
         ap (λ (l : List ℕ). sort (writes l (take n ss′))) front-names
         ∙ ap (λ (l : List ℕ). sort (writes (map (middle (s .device) spare) taken) l)) front-froms
-        ∙ ap sort (copies (s .device) spare taken)
+        ∙ ap sort (copies (middle (s .device) spare) taken)
 
     pub sort-done : (r : ℕ) (ps″ ss″ : List ℕ) → r ≡ length (sort (writes (take n ps′) (take n ss′)))
         → ps″ ≡ store ps′ 0 (logicals (sort (writes (take n ps′) (take n ss′))))
@@ -181,7 +182,7 @@ module _ (d : Device) (s : State) (spare : List ℕ) (v : Passed d s spare) wher
 
     -- Nothing to move: nothing is written ..
     nothing : (ws : List Write) → length ws ≡ 0 → (0 ≡ firstMoved ws s) × ((x : Lent) → x ≡ moveAll ws x)
-    unfolding firstMoved moveAll
+    unfolding firstOf moveAll
     nothing [] h = (refl, λ x. refl)
     nothing (w ∷ ws) h = absurd (omega arith)
 
@@ -190,7 +191,7 @@ module _ (d : Device) (s : State) (spare : List ℕ) (v : Passed d s spare) wher
 
     -- .. otherwise the lowest free block takes the moves.
     something : (ws : List Write) → (length ws ≡ 0 → ⊥) → (firstMoved ws s ≡ firstPage (s .device) (lowestFree s)) × ((x : Lent) → moveAll ws x ≡ writeBlock ws (lowestFree (x .state)) x)
-    unfolding firstMoved moveAll
+    unfolding firstOf moveAll
     something [] h = absurd (h refl)
     something (w ∷ ws) h = (refl, λ x. refl)
 
@@ -210,11 +211,11 @@ module _ (d : Device) (s : State) (spare : List ℕ) (v : Passed d s spare) wher
 
   -- The block that is written is one of the device's.
   pub lowest-in : length (s .counts) ≡ d .M → (k : ℕ) → k ≡ lowestFree s → k < d .M
-  unfolding lowestFree
+  unfolding lowestIn
   lowest-in counted k e = go (freeBlocks 0 (s .counts)) refl
     where
       go : (l : List ℕ) → freeBlocks 0 (s .counts) ≡ l → k < d .M
       go [] q =
           let z : k ≡ 0 = e ∙ rw q refl in
           omega (arith, limits d (v .shape .limits) .least-M)
-      go (f ∷ l) q = omega (arith, e, counted, lowestFree-free s (rw q (omega arith)) .0)
+      go (f ∷ l) q = omega (arith, e, counted, lowest-free (s .counts) (rw q (omega arith)) .0)

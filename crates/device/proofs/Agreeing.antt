@@ -18,7 +18,7 @@ use Rattle.calls.specs.Outcome.{Answer, agreed, refused}
 use Rattle.calls.specs.Lookup.{seek}
 use Rattle.calls.specs.Agreement.{eachBelow, isNamed, alike, stateChecks, allNamed, agreeChecks, agrees, agreeAnswer, agree}
 use Rattle.calls.specs.History.{agreeCall, lend, run}
-use Rattle.calls.proofs.Decided.{no-checks}
+use Rattle.calls.proofs.Refusing.{none-some, stops, goes-on, right-length, wrong-length, no-checks}
 use Rattle.spare.specs.Read.{numbersOf}
 use Rattle.spare.specs.declared.Numbers.{Numbers}
 use Rattle.device.specs.declared.answers.Refusal as code
@@ -29,7 +29,7 @@ use Rattle.device.specs.Answers.{refusalOf}
 use Rattle.device.specs.Opening as opening
 use Rattle.device.specs.Agreeing.{Checks}
 use Rattle.device.specs.Ran.{Ran}
-use Rattle.device.proofs.Refusing.{none-some, stops, goes-on, right-length, wrong-length, numbers-there, state-right, not-opened}
+use Rattle.device.proofs.Refusing.{numbers-there, state-right, not-opened}
 use Rattle.device.proofs.Handing.{sound-at}
 use Rattle.device.proofs.Comparing.{each-not, each-more, each-all}
 

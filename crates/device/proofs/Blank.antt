@@ -7,6 +7,7 @@ use native.Mathlib.Omega.{arith}
 use lib.Dec.{ltb}
 use lib.ListN.{length, getD, replicate, length-replicate, getD-replicate, List·getD-eq-default}
 use borrow.Author.Tests.{ltb-true, ltb-false}
+use Rattle.calls.specs.Format.{blankState}
 use Rattle.model.specs.Lists.{store}
 use Rattle.model.specs.Device.{Device, withinLimits, groupCount, headLength, groupLength, stateLength}
 use Rattle.model.proofs.Lists.{length-store, getD-store}
@@ -15,7 +16,7 @@ use Rattle.bytes.proofs.Same.{stored-below, part-in}
 use Rattle.bytes.proofs.ReadWrite.{le16-same}
 use Rattle.group.specs.Layout.{usedOf, flagOf}
 use Rattle.device.specs.Reading.{numbersAt, countAt, countPlace, groupPlace, groupPart, groupRead, readState}
-use Rattle.device.specs.Formatting.{headOf, blankOf}
+use Rattle.device.specs.Formatting.{headOf}
 use Rattle.device.proofs.Tables.{from-all}
 use Rattle.device.proofs.Places.{count-low, group-low, head-inside}
 use Rattle.device.proofs.Head.{numbers-same, head-stored}
@@ -65,8 +66,8 @@ module _ (s : List ℕ) where
 
 -- the head written, then zeros stored
 pub blank-read : (d : Device) (s t u : List ℕ) → withinLimits d ≡ true → length s ≡ stateLength d → t ≡ store s 0 (headOf d)
-    → u ≡ store t headLength (replicate (length t - headLength) 0) → readState u ≡ blankOf d
-unfolding blankOf headLength
+    → u ≡ store t headLength (replicate (length t - headLength) 0) → readState u ≡ blankState d
+unfolding blankState headLength
 blank-read d s t u h l e f =
     let long : length t ≡ stateLength d = rw e (length-store s 0 (headOf d) ∙ l) in
     let numbers : numbersAt t ≡ d = rw e (head-stored d s h (omega (arith, head-inside d))) in

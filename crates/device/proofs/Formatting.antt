@@ -12,11 +12,11 @@ use Rattle.calls.specs.Refusals.{Refusal, badNumbers, badLength, _when_, firstR
 use Rattle.calls.specs.Outcome.{accepted, number, refused, formatted, Outcome}
 use Rattle.calls.specs.Format.{formatChecks, blankState, formatDone, format}
 use Rattle.calls.specs.History.{formatCall, lend, run}
-use Rattle.calls.proofs.Decided.{unless-accepts, passes, no-checks}
+use Rattle.calls.proofs.Decided.{unless-accepts}
+use Rattle.calls.proofs.Refusing.{stops, goes-on, right-length, wrong-length, is-clear}
 use Rattle.device.specs.Reading.{readState}
-use Rattle.device.specs.Formatting.{blankOf}
 use Rattle.device.specs.Ran.{Ran}
-use Rattle.device.proofs.Refusing.{stops, goes-on, right-length, wrong-length, ran-refused}
+use Rattle.device.proofs.Refusing.{ran-refused}
 
 module _ (d : Device) (state spare : List ℕ) where
   refuses : (r : Refusal) → firstRefusal (formatChecks d (lend (readState state) spare [] [])) ≡ some r → Ran (formatCall d) state spare (refused r) state spare [] []
@@ -46,17 +46,16 @@ module _ (d : Device) (state spare : List ℕ) where
           (goes-on (badNumbers when not (withinLimits d)) _ numbers-pass
           ∙ stops (badLength when _) _ (rw (eq-eqb (length state) (stateLength d) long, wrong-length spare (spareLength d) h)))
 
-      pub format-done : length spare ≡ spareLength d → (state′ spare′ : List ℕ) → readState state′ ≡ blankOf d → spare′ ≡ replicate (spareLength d) nobody
+      pub format-done : length spare ≡ spareLength d → (state′ spare′ : List ℕ) → readState state′ ≡ blankState d → spare′ ≡ replicate (spareLength d) nobody
           → Ran (formatCall d) state spare formatted state′ spare′ [] []
-      unfolding run format formatChecks formatDone blankState blankOf lend readState accepted number
+      unfolding run format formatChecks formatDone lend readState accepted number
       format-done fits state′ spare′ s p =
           let clear : firstRefusal (formatChecks d (lend (readState state) spare [] [])) ≡ none =
-          passes (badNumbers when not (withinLimits d)) _ numbers-pass
-          (passes (badLength when _) _ (rw (eq-eqb (length state) (stateLength d) long, right-length spare (spareLength d) fits)) no-checks) in
+          is-clear _ (numbers-pass, (rw (eq-eqb (length state) (stateLength d) long, right-length spare (spareLength d) fits), tt)) in
           let q : run (formatCall d) (readState state) spare ≡ formatDone d (lend (readState state) spare [] []) = unless-accepts _ _ _ clear in
           record {
             answered = sym (ap (λ (o : Outcome). o .answer) q);
-            stateRead = s ∙ ap (λ (n : ℕ). record { bytes = n; device = d; counts = replicate (d .M) 0; groups = replicate (groupCount d) [] }) (sym long) ∙ sym (ap (λ (o : Outcome). o .after .state) q);
+            stateRead = s ∙ sym (ap (λ (o : Outcome). o .after .state) q);
             spareLeft = p ∙ sym (ap (λ (o : Outcome). o .after .spare) q);
             planLeft = sym (ap (λ (o : Outcome). o .after .plan) q);
             erasedLeft = sym (ap (λ (o : Outcome). o .after .erased) q);

@@ -10,10 +10,10 @@ use Rattle.model.specs.Device.{Device, groupCount}
 use Rattle.model.specs.State.{State, groupAt}
 use Rattle.model.specs.Sound.{soundGroup}
 use Rattle.calls.specs.Refusals.{Refusal, badNumbers, badLength, notSound, outOfRange, Check, _when_, firstRefusal, numbersMissing, wrongState}
-use Rattle.calls.proofs.Decided.{no-checks}
+use Rattle.calls.proofs.Refusing.{stops, goes-on, no-checks}
 use Rattle.device.specs.Shaped.{Shaped}
 use Rattle.device.specs.Opening.{stateChecks}
-use Rattle.device.proofs.Refusing.{stops, goes-on, numbers-there, not-opened}
+use Rattle.device.proofs.Refusing.{numbers-there, not-opened}
 
 module _ (s : State) (k : ℕ) (wrong : Bool) where
   abbrev first : Check

@@ -13,8 +13,10 @@ use Rattle.model.specs.Device.{Device, groupCount}
 use Rattle.model.specs.Levels.{recordCount}
 use Rattle.model.specs.State.{State, groupAt}
 use Rattle.model.specs.Sound.{soundGroup}
+use Rattle.model.proofs.Lists.{store-nil}
 use Rattle.calls.specs.Refusals.{Refusal, badLength, notSound, outOfRange, firstRefusal, wrongLength, wrongState}
-use Rattle.bytes.proofs.Stores.{store-nil, store-then}
+use Rattle.calls.proofs.Refusing.{right-length, wrong-length}
+use Rattle.bytes.proofs.Stores.{store-then}
 use Rattle.group.specs.declared.Slot.{Slot}
 use Rattle.group.specs.Layout.{slotsOf}
 use Rattle.group.specs.Answers.{noSlot}
@@ -28,7 +30,7 @@ use Rattle.device.specs.Reading.{readState}
 use Rattle.device.specs.Shaped.{Shaped}
 use Rattle.device.specs.Opening.{stateChecks}
 use Rattle.device.specs.Listing.{listingLength, tens, listed, records, refused, listChecks, listDone, outcome, list}
-use Rattle.device.proofs.Refusing.{right-length, wrong-length, state-right}
+use Rattle.device.proofs.Refusing.{state-right}
 use Rattle.device.proofs.GroupChecks.{closed-state, wrong-slice, no-group, unsound-group, sound-group}
 use Rattle.device.proofs.Handing.{Lent, part-encodes}
 

@@ -14,12 +14,13 @@ use Rattle.calls.specs.Refusals.{Refusal, badNumbers, badLength, notSound, outO
 use Rattle.calls.specs.Outcome.{Answer, refused, Outcome}
 use Rattle.calls.specs.Lookup.{lookupChecks, seek, answerOf, lookup}
 use Rattle.calls.specs.History.{lookupCall, lend, run}
-use Rattle.calls.proofs.Decided.{unless-accepts, no-checks}
+use Rattle.calls.proofs.Decided.{unless-accepts}
+use Rattle.calls.proofs.Refusing.{stops, goes-on, right-length, wrong-length, no-checks}
 use Rattle.device.specs.Reading.{readState}
 use Rattle.device.specs.Shaped.{Shaped}
 use Rattle.device.specs.Opening.{stateChecks}
 use Rattle.device.specs.Ran.{Ran}
-use Rattle.device.proofs.Refusing.{stops, goes-on, right-length, wrong-length, ran-refused, numbers-there, state-right, not-opened}
+use Rattle.device.proofs.Refusing.{ran-refused, numbers-there, state-right, not-opened}
 
 module _ (state spare : List ℕ) (x : ℕ) where
   abbrev s : State

@@ -15,6 +15,7 @@ use Rattle.spare.specs.declared.Numbers.{Numbers}
 use Rattle.calls.specs.Refusals.{Refusal, badNumbers, badLength, Check, _when_, firstRefusal, wrongLength, numbersMissing, wrongState}
 use Rattle.calls.specs.Outcome.{refused, Outcome, outcome, unless}
 use Rattle.calls.specs.History.{Call, lend, run}
+use Rattle.calls.proofs.Refusing.{stops, goes-on, none-some}
 use Rattle.device.specs.Reading.{readState}
 use Rattle.device.specs.Shaped.{Shaped}
 use Rattle.device.specs.declared.answers.Refusal as code
@@ -24,26 +25,6 @@ use Rattle.device.specs.Answers.{refusalOf}
 use Rattle.device.specs.Opening.{stateChecks, Opens}
 use Rattle.device.specs.Ran.{Ran}
 use Rattle.device.proofs.Places.{head-inside}
-
-pub none-some : {A : Type 0} {B : Type 0} {a : A} → _≡_ {A = Option A} none (some a) → B
-none-some e = let z : _≡_ {A = ℕ} 0 1 = cc in absurd (omega arith)
-
--- a check that applies is the answer; one that doesn't leaves it to the others
-pub stops : (c : Check) (cs : List Check) → c .applies ≡ true → firstRefusal (c ∷ cs) ≡ some (c .refusal)
-unfolding firstRefusal orElse
-stops c cs e = rw e
-
-pub goes-on : (c : Check) (cs : List Check) → c .applies ≡ false → firstRefusal (c ∷ cs) ≡ firstRefusal cs
-unfolding firstRefusal orElse
-goes-on c cs e = rw e
-
-pub right-length : (s : List ℕ) (n : ℕ) → length s ≡ n → wrongLength s n ≡ false
-unfolding wrongLength
-right-length s n e = rw (eq-eqb (length s) n e)
-
-pub wrong-length : (s : List ℕ) (n : ℕ) → (length s ≡ n → ⊥) → wrongLength s n ≡ true
-unfolding wrongLength
-wrong-length s n e = rw (ne-eqb (length s) n e)
 
 -- a call that refuses: the answer, and nothing changed
 pub ran-refused : (c : Call) (checks : List Check) (out : Outcome) (state spare plan erased : List ℕ) (r : Refusal)

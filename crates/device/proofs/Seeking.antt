@@ -19,9 +19,9 @@ use Rattle.model.proofs.Bools.{and-l, all-head, all-tail}
 use Rattle.model.proofs.SoundRecord.{record-parts}
 use Rattle.model.proofs.SoundGroup.{group-parts}
 use Rattle.calls.specs.Lookup.{Sought, at, nowhere, unnamed, soughtNamed, soughtAt, soughtBy, seek}
+use Rattle.calls.proofs.Refusing.{none-some}
 use Rattle.record.specs.Read.{asRecord, bare, existing}
 use Rattle.record.specs.declared.Record as code
-use Rattle.device.proofs.Refusing.{none-some}
 
 -- by the page that is predicted
 data Predicted (d : Device) (spare : List ℕ) (x n : ℕ) : Option ℕ → Sought → Type 0 where

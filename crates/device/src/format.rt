@@ -13,10 +13,11 @@ ghost use lib.ListN.{length, replicate};
 ghost use Rattle.model.specs.Lists.{store};
 ghost use Rattle.model.specs.Device.{withinLimits, headLength, stateLength, spareLength};
 ghost use Rattle.model.specs.Spare.{nobody};
+ghost use Rattle.calls.specs.Format.{blankState};
 ghost use Rattle.calls.specs.History.{formatCall};
 ghost use Rattle.spare.specs.Read.{numbersOf};
 ghost use Rattle.device.specs.Reading.{readState};
-ghost use Rattle.device.specs.Formatting.{headOf, blankOf};
+ghost use Rattle.device.specs.Formatting.{headOf};
 ghost use Rattle.device.specs.Answers.{formatAnswer};
 ghost use Rattle.device.specs.Ran.{Ran};
 
@@ -47,7 +48,7 @@ fn clear(state: &mut [u8])
 // The state of a device that holds nothing.
 fn blank(state: &mut [u8], d: Numbers)
     requires { ⌜ (withinLimits (numbersOf d) ≡ true) × (length (now state) ≡ stateLength (numbersOf d)) ⌝ }
-    ensures { λ _. ⌜ readState (now (state .exit)) ≡ blankOf (numbersOf d) ⌝ }
+    ensures { λ _. ⌜ readState (now (state .exit)) ≡ blankState (numbersOf d) ⌝ }
 {
     write_numbers(state, d);
     clear(state);

@@ -12,36 +12,36 @@ use lib.IntN.{ℤ, pos, negsuc}
 use lib.ListN.{length, length-map}
 use borrow.Author.Tests.{ltb-true, ltb-false, not-false}
 use Rattle.model.specs.Lists.{orElse}
-use Rattle.model.specs.Device.{Device, headLength, pages, firstPage, groupOf, offsetOf, entriesPerPage}
+use Rattle.model.specs.Device.{Device, headLength, pages, firstPage, groupOf, offsetOf, namesPerPage}
 use Rattle.model.specs.Record.{Record, predict}
 use Rattle.model.specs.Spare.{middle, names, lowestNaming, pageNamed}
-use Rattle.model.specs.Learning.{Write, sorted, arrivals}
+use Rattle.model.specs.Learning.{Write, sorted}
 use Rattle.model.specs.Levels.{Group, listing, holder, levelsTo}
-use Rattle.model.specs.State.{State, groupAt, freeBlocks, usedBlocks, lowestFree}
-use Rattle.model.proofs.Bools.{and-l, and-r}
+use Rattle.model.specs.State.{State, groupAt, freeBlocks, usedBlocks, lowestFree, lowestIn}
+use Rattle.model.proofs.Bools.{and-l, and-r, or-none}
 use Rattle.model.proofs.Limits.{Limits, limits, page-inside}
-use Rattle.model.proofs.Blocks.{lowestFree-free, free-and-used}
+use Rattle.model.proofs.Blocks.{lowest-free, free-and-used}
 use Rattle.model.proofs.LevelsTo.{levelsTo-most}
 use Rattle.model.proofs.RecordCount.{compact-count}
 use Rattle.model.proofs.SoundGroup.{group-parts}
-use Rattle.model.proofs.Sorting.{sort-length}
+use Rattle.model.proofs.Sorting.{sort-length, sorted-length}
+use Rattle.model.specs.Sound.{isEmpty}
 use Rattle.calls.specs.Refusals.{Refusal, badNumbers, badLength, notSound, outOfRange, badBatch, noFreeBlock, notNamed, nothingToGain, refusalNumber, Check, firstRefusal, numbersMissing}
 use Rattle.calls.specs.Outcome.{Lent, Answer, Outcome, outcome, unless}
 use Rattle.calls.specs.Format.{format, formatDone}
 use Rattle.calls.specs.Flush.{flushChecks, flushDone, flush}
 use Rattle.calls.specs.Lookup.{soughtNamed, soughtAt, soughtBy, seek, answerOf, lookupChecks, lookup}
-use Rattle.calls.specs.Collection.{Used, usedBlock, ranked, takeWhile, victims, blocksOf, pagesOf, copy, moves, collectChecks, firstMoved, collectDone, collect}
+use Rattle.calls.specs.Choice.{Used, usedBy, ranked, takeWhile, victimsBy, blocksOf, pagesOf, copyBy, movesBy, firstOf}
+use Rattle.calls.specs.Collection.{valid, victims, moves, collectChecks, firstMoved, collectDone, collect}
 use Rattle.calls.specs.Compaction.{compactDone, compaction}
 use Rattle.calls.specs.Agreement.{agree, agreeAnswer}
 use Rattle.calls.specs.History.{Call, formatCall, flushCall, lookupCall, collectCall, compactCall, agreeCall, lend, run}
-use Rattle.calls.proofs.Decided.{clears}
-use Rattle.calls.proofs.Ranking.{ranked-length, taken-fits}
-use Rattle.calls.proofs.Holding.{flush-passed, or-r}
-use Rattle.batch.proofs.SortBatch.{arrivals-length}
+use Rattle.calls.proofs.Ranking.{ranked-length}
+use Rattle.calls.proofs.Choosing.{pages-fit}
+use Rattle.calls.proofs.Refusing.{none-some, clears}
 use Rattle.table.proofs.Count.{length-flat, levels-few}
 use Rattle.device.specs.Reading.{readState}
 use Rattle.device.specs.Ran.{Ran}
-use Rattle.device.proofs.Refusing.{none-some}
 use Rattle.device.proofs.Tables.{length-from}
 use Rattle.export.specs.Packing.{bit20, Fitting}
 
@@ -77,9 +77,9 @@ named-inside : (d : Device) (spare : List ℕ) (p x q : ℕ) → p < pages d →
 unfolding pageNamed orElse
 named-inside d spare p x q h e = go (eqb (middle d spare p) x) e
   where
-    go : (t : Bool) → orElse t p (lowestNaming d spare p x 0 (entriesPerPage d)) ≡ some q → q < pages d
+    go : (t : Bool) → orElse t p (lowestNaming d spare p x 0 (namesPerPage d)) ≡ some q → q < pages d
     go true f = let z : p ≡ q = cc in subst (λ (y : ℕ). y < pages d) z h
-    go false f = lowest-inside d spare p x 0 (entriesPerPage d) q f
+    go false f = lowest-inside d spare p x 0 (namesPerPage d) q f
 
 module _ (d : Device) (l : Limits d) where
   -- a device has at most 2^20 pages
@@ -119,7 +119,7 @@ fits-unless checks x out h = go (firstRefusal checks) refl
 -- the device numbers of a call that has passed its first check
 numbered : (s : State) → numbersMissing s ≡ false → Limits (s .device)
 unfolding numbersMissing
-numbered s e = limits (s .device) (not-false _ (or-r (ltb (s .bytes) headLength) _ e))
+numbered s e = limits (s .device) (not-false _ (or-none (ltb (s .bytes) headLength) _ e .1))
 
 format-fits : (d : Device) (x : Lent) → Fitting (format d x .answer)
 unfolding format formatDone Fitting
@@ -131,15 +131,12 @@ unfolding lookup lookupChecks seek
 lookup-fits page x =
     fits-unless (lookupChecks page x) x _
     (λ e.
-    let one = clears _ _ e in
-    let two = clears _ _ (one .1) in
-    let three = clears _ _ (two .1) in
-    let four = clears _ _ (three .1) in
+    let c = clears _ e in
     let s : State = x .state in
     let g : Group = groupAt s (groupOf page) in
-    let p = group-parts (s .device .N) (groupOf page) g (not-false _ (four .0)) in
+    let p = group-parts (s .device .N) (groupOf page) g (not-false _ (c .1 .1 .1 .0)) in
     let m : levelsTo (offsetOf page) g ≤ 512 = omega (arith, levelsTo-most (offsetOf page) g, levels-few g (p .filled), length-flat g, p .limit) in
-    sought-fits (s .device) (numbered s (one .0)) (x .spare) page (levelsTo (offsetOf page) g) (holder (offsetOf page) (listing g)) m)
+    sought-fits (s .device) (numbered s (c .0)) (x .spare) page (levelsTo (offsetOf page) g) (holder (offsetOf page) (listing g)) m)
 
 compaction-fits : (k : ℕ) (x : Lent) → Fitting (compaction k x .answer)
 unfolding compaction compactDone Fitting
@@ -163,28 +160,28 @@ taken-most room (u ∷ l) = go (leb (length (u .pages)) room) refl (taken-most (
 -- a state has a count for each block
 module _ (s : State) (counted : length (s .counts) ≡ s .device .M) (l : Limits (s .device)) where
   lowest-small : firstPage (s .device) (lowestFree s) < bit20
-  unfolding lowestFree
+  unfolding lowestIn
   lowest-small = first-small (s .device) l (lowestFree s) (go (freeBlocks 0 (s .counts)) refl)
     where
       go : (f : List ℕ) → freeBlocks 0 (s .counts) ≡ f → lowestFree s < s .device .M
       go [] e = let z : lowestFree s ≡ 0 = rw e in omega (arith, l .least-M)
-      go (k ∷ f) e = omega (arith, lowestFree-free s (omega (arith, ap length e)) .0)
+      go (k ∷ f) e = omega (arith, lowest-free (s .counts) (omega (arith, ap length e)) .0)
 
   victims-most : (spare : List ℕ) → length (blocksOf (victims s spare)) ≤ 4096
-  unfolding victims
+  unfolding victims victimsBy
   victims-most spare =
-      let us : List Used = map (usedBlock s spare) (usedBlocks 0 (s .counts)) in
-      omega (arith, taken-most (s .device .B) (ranked us), ranked-length us, length-map (usedBlocks 0 (s .counts)) (usedBlock s spare), free-and-used 0 (s .counts), l .most-M)
+      let us : List Used = map (usedBy (valid s spare) (s .device)) (usedBlocks 0 (s .counts)) in
+      omega (arith, taken-most (s .device .B) (ranked us), ranked-length us, length-map (usedBlocks 0 (s .counts)) (usedBy (valid s spare) (s .device)), free-and-used 0 (s .counts), l .most-M)
 
   moves-most : (spare : List ℕ) → length (moves s spare) ≤ 256
-  unfolding moves victims
+  unfolding moves movesBy victims
   moves-most spare =
-      let us : List Used = map (usedBlock s spare) (usedBlocks 0 (s .counts)) in
+      let name : ℕ → ℕ = middle (s .device) spare in
       let ps : List ℕ = pagesOf (victims s spare) in
-      omega (arith, sort-length (map (copy (s .device) spare) ps), length-map ps (copy (s .device) spare), taken-fits (s .device .B) (ranked us), l .most-B)
+      omega (arith, sort-length (map (copyBy name) ps), length-map ps (copyBy name), pages-fit (valid s spare) (s .device) (s .counts), l .most-B)
 
   first-moved : (ws : List Write) → firstMoved ws s < bit20
-  unfolding firstMoved
+  unfolding firstMoved firstOf
   first-moved [] = omega arith
   first-moved (w ∷ ws) = lowest-small
 
@@ -194,9 +191,9 @@ unfolding flush flushChecks flushDone Fitting sorted
 flush-fits batch x counted =
     fits-unless (flushChecks batch x) x _
     (λ e.
-    let l = numbered (x .state) (clears _ _ e .0) in
-    let f = ltb-false (x .state .device .B) (length batch) (flush-passed batch x e .0 .fits) in
-    (lowest-small (x .state) counted l, omega (arith, sort-length (arrivals 0 batch), arrivals-length 0 batch, f, l .most-B)))
+    let l = numbered (x .state) (clears _ e .0) in
+    let f = ltb-false (x .state .device .B) (length batch) (or-none (isEmpty batch) _ (clears _ e .1 .1 .1 .0) .1) in
+    (lowest-small (x .state) counted l, omega (arith, sorted-length batch, f, l .most-B)))
 
 -- A collection's likewise; it erases at most 4,096 blocks.
 collect-fits : (x : Lent) → length (x .state .counts) ≡ x .state .device .M → Fitting (collect x .answer)
@@ -205,7 +202,7 @@ collect-fits x counted =
     fits-unless (collectChecks x) x _
     (λ e.
     let s : State = x .state in
-    let l = numbered s (clears _ _ e .0) in
+    let l = numbered s (clears _ e .0) in
     (first-moved s counted l (moves s (x .spare)), moves-most s counted l (x .spare), victims-most s counted l (x .spare)))
 
 run-fits : (c : Call) (s : State) (spare : List ℕ) → length (s .counts) ≡ s .device .M → Fitting (run c s spare .answer)

@@ -13,7 +13,7 @@ use Rattle.model.proofs.SoundGroup.{group-parts}
 use Rattle.calls.specs.Refusals.{Refusal, refusalNumber, firstRefusal}
 use Rattle.calls.specs.Outcome.{Answer, formatted, flushed, found, notWritten, collected, compacted, agreed, refused}
 use Rattle.calls.specs.History.{Call}
-use Rattle.calls.proofs.Decided.{clears}
+use Rattle.calls.proofs.Refusing.{clears}
 use Rattle.device.specs.Listing as listing
 use Rattle.export.specs.Packing.{bit20, bit40, bit56, bit60, packed, packedListing, Fitting, Packs}
 use Rattle.export.proofs.Bounds.{ran-fits}
@@ -71,8 +71,7 @@ listing-unpacked k s out = go (firstRefusal (listing.listChecks k s out)) refl
     go : (o : Option Refusal) → firstRefusal (listing.listChecks k s out) ≡ o
         → UnpackedListing (packedListing (listing.outcome o out (listing.listDone k s out) .answer)) (listing.outcome o out (listing.listDone k s out) .answer)
     go none e =
-        let three = clears _ _ (clears _ _ (clears _ _ e .1) .1) in
-        let sound = not-false (soundGroup (s .device .N) k (groupAt s k)) (clears _ _ (three .1) .0) in
+        let sound = not-false (soundGroup (s .device .N) k (groupAt s k)) (clears _ e .1 .1 .1 .0) in
         let few = group-parts (s .device .N) k (groupAt s k) sound .limit in
         unpacks 0 0 0 0 (recordCount (groupAt s k)) _ (omega arith) (omega arith) (omega arith) (omega arith) (omega arith)
     go (some x) e = unpacks (refusalNumber x) 0 0 0 0 _ (omega arith) (omega arith) (omega arith) (omega arith) (omega arith)

@@ -14,13 +14,15 @@ use Rattle.model.specs.Spare.{programBlock}
 use Rattle.model.specs.Learning.{sorted, logicals, sources}
 use Rattle.model.specs.State.{State, freeBlocks, lowestFree}
 use Rattle.model.specs.Sound.{soundState}
-use Rattle.model.proofs.Blocks.{lowestFree-free}
+use Rattle.model.proofs.Blocks.{lowest-free}
+use Rattle.model.proofs.Bools.{or-none}
 use Rattle.calls.specs.Refusals.{Refusal, firstRefusal, wrongSpare, wrongState}
 use Rattle.calls.specs.Outcome.{Lent, accepted, number, refused, flushed, Outcome}
 use Rattle.calls.specs.Flush.{flush, flushChecks, flushDone, writeBlock, writeState}
 use Rattle.calls.specs.History.{flushCall, lend, run}
-use Rattle.calls.proofs.Decided.{clears, unless-accepts}
-use Rattle.calls.proofs.Holding.{flush-passed, or-l, or-r, right-length}
+use Rattle.calls.proofs.Decided.{unless-accepts}
+use Rattle.calls.proofs.Fitting.{fits-of}
+use Rattle.calls.proofs.Refusing.{clears, length-is}
 use Rattle.spare.specs.Read.{numbersOf}
 use Rattle.spare.specs.declared.Numbers.{Numbers}
 use Rattle.device.specs.declared.answers.Refusal as code
@@ -63,30 +65,24 @@ module _ (state spare batch plan : List ℕ) where
   flush-refused r e = ran-refused (flushCall batch plan) _ _ state spare plan [] r refl e
 
   module _ (d : Device) (h : Shaped d s) (clear : firstRefusal (flushChecks batch (lend s spare plan [])) ≡ none) where
-    second-third : (wrongSpare s spare ≡ false) × (soundState s ≡ true)
-    unfolding flushChecks lend
-    second-third =
-        let one = clears _ _ clear in
-        let two = clears _ _ (one .1) in
-        let three = clears _ _ (two .1) in
-        (or-r (wrongState s) _ (or-l (wrongState s || wrongSpare s spare) _ (two .0)), not-false _ (three .0))
-
     pub passed : Passed d s spare batch plan
-    unfolding wrongSpare lend
+    unfolding flushChecks wrongSpare lend
     passed =
-        let f = flush-passed batch (lend s spare plan []) clear in
+        let c = clears _ clear in
+        let l = or-none (wrongState s || wrongSpare s spare) _ (c .1 .0) in
+        let f = fits-of (s .device) batch plan (l .1) (c .1 .1 .1 .0) (c .1 .1 .1 .1 .0) in
         record {
-          sound = second-third .1;
-          fits = rw (h .numbers) at (right-length spare (spareLength (s .device)) (second-third .0));
-          planned = rw (h .numbers) at (f .1);
-          short = rw (h .numbers) at (ltb-false (s .device .B) (length batch) (f .0 .fits));
-          inside = rw (h .numbers) at (f .0 .logical);
-          free = f .0 .free;
+          sound = not-false _ (c .1 .1 .0);
+          fits = rw (h .numbers) at (length-is spare (spareLength (s .device)) (or-none (wrongState s) _ (l .0) .1));
+          planned = rw (h .numbers) at (f .planned);
+          short = rw (h .numbers) at (f .short);
+          inside = rw (h .numbers) at (f .logical);
+          free = ltb-false (length (freeBlocks 0 (s .counts))) 2 (c .1 .1 .1 .1 .1 .0);
         }
 
     -- the lowest-numbered free block is one of the blocks
     pub lowest-inside : (k : ℕ) → k ≡ lowestFree s → k < d .M
-    lowest-inside k e = omega (arith, lowestFree-free s (omega (arith, passed .free)) .0, length-counts d state h)
+    lowest-inside k e = omega (arith, lowest-free (s .counts) (omega (arith, passed .free)) .0, length-counts d state h)
 
     -- the block is written, and its first page and the count are answered
     pub flush-written : (k n : ℕ) (state′ spare′ plan′ : List ℕ) → k ≡ lowestFree s → n ≡ length (sorted batch)

@@ -1,40 +1,21 @@
 -- A sorted batch, as a block takes it: what stands at the front of the two lists that it is sorted into. Assumes nothing.
 use mathlib.Core.Path.{_≡_, refl, sym, ap, _∙_}
 use mathlib.Core.List.{List, [], _∷_}
-use mathlib.Core.Logic.{_⊎_, inl, inr}
-use mathlib.Core.Bool.{Bool, true}
+use mathlib.Core.Bool.{true}
 use Prim.Native.Nat.{ℕ, _≤_}
 use native.Mathlib.Omega.{arith}
 use lib.Dec.{ltb}
 use lib.ListN.{length, take}
 use borrow.Author.Tests.{ltb-true, lt-ltb}
-use Rattle.model.specs.Lists.{all, elem, ascending, store}
+use Rattle.model.specs.Lists.{all, ascending, store}
 use Rattle.model.specs.Device.{Device}
 use Rattle.model.specs.Spare.{programBlock}
 use Rattle.model.specs.Learning.{Write, arrivals, sorted, logicals, sources}
 use Rattle.model.specs.State.{State}
-use Rattle.model.proofs.Bools.{all-head, all-tail, all-cons}
-use Rattle.model.proofs.Lists.{elem-here, elem-there, elem-cons, no-elem, of-asc, length-store}
-use Rattle.model.proofs.Sorting.{sort-asc, sort-length, sorted-elem, logicals-length, sources-length}
+use Rattle.model.proofs.Lists.{of-asc, length-store, store-front, all-each, each-all}
+use Rattle.model.proofs.Sorting.{sort-asc, sorted-elem, logicals-length, sources-length, sorted-length}
 use Rattle.calls.specs.Flush.{writeState}
 use Rattle.batch.specs.Keys.{writes}
-use Rattle.batch.proofs.SortBatch.{arrivals-length}
-use Rattle.batch.proofs.SortStores.{take-store}
-
--- All pass where each one does, and the other way.
-module _ (t : ℕ → Bool) where
-  all-each : (l : List ℕ) → ((x : ℕ) → elem x l ≡ true → t x ≡ true) → all t l ≡ true
-  unfolding all
-  all-each [] h = refl
-  all-each (y ∷ l) h = all-cons t y l (h y (elem-here y l)) (all-each l (λ x e. h x (elem-there x y l e)))
-
-  each-all : (l : List ℕ) → all t l ≡ true → (x : ℕ) → elem x l ≡ true → t x ≡ true
-  each-all [] h x e = no-elem x e
-  each-all (y ∷ l) h x e = go (elem-cons x y l e) (each-all l (all-tail t y l h) x)
-    where
-      go : (x ≡ y) ⊎ (elem x l ≡ true) → (elem x l ≡ true → t x ≡ true) → t x ≡ true
-      go (inl q) ih = rw q (all-head t y l h)
-      go (inr q) ih = ih q
 
 -- Pages below n are below any greater number.
 pub below-more : (n m : ℕ) (l : List ℕ) → n ≤ m → all (λ x. ltb x n) l ≡ true → all (λ x. ltb x m) l ≡ true
@@ -46,11 +27,7 @@ unfolding writes logicals sources
 writes-back [] = refl
 writes-back (w ∷ ws) = ap (λ (l : List Write). w ∷ l) (writes-back ws)
 
--- The sorted batch is no longer than the batch, ascends, and has the batch's logical pages.
-sorted-length : (batch : List ℕ) → length (sorted batch) ≤ length batch
-unfolding sorted
-sorted-length batch = omega (arith, sort-length (arrivals 0 batch), arrivals-length 0 batch)
-
+-- The sorted batch ascends, and has the batch's logical pages.
 sorted-ascends : (batch : List ℕ) → ascending (logicals (sorted batch)) ≡ true
 unfolding sorted
 sorted-ascends batch = of-asc (logicals (sorted batch)) (sort-asc (arrivals 0 batch))
@@ -82,7 +59,7 @@ pub record Front (batch : List ℕ) (n : ℕ) (ps ss : List ℕ) : Type 0 where
 
 -- what was stored at a list's start stands there
 front-of : (z s vs : List ℕ) (n : ℕ) → s ≡ store z 0 vs → n ≡ length vs → n ≤ length z → take n s ≡ vs
-front-of z s vs n e c h = ap (take n) e ∙ ap (λ (k : ℕ). take k (store z 0 vs)) c ∙ take-store z vs (omega arith)
+front-of z s vs n e c h = ap (take n) e ∙ ap (λ (k : ℕ). take k (store z 0 vs)) c ∙ store-front z vs (omega arith)
 
 -- So they are where it was sorted into lists that have room.
 pub sorted-front : (batch : List ℕ) (n : ℕ) (z ps y ss : List ℕ) → length batch ≤ length z → length batch ≤ length y → n ≡ length (sorted batch)

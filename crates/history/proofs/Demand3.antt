@@ -1,37 +1,50 @@
--- Demand 3 on the bytes: read, a run is a step of the definitions, and so the theorem about them is about the functions. Assumes nothing.
-use mathlib.Core.Path.{_≡_, _∙_, ap}
+-- Demand 3 on the bytes: read, a run is a step of the definitions. So the functions simulate the definitions, and the theorem about
+-- these is one about those. Assumes nothing.
+use mathlib.Core.Path.{_≡_, refl, sym, _∙_, ap, ap₂, subst}
 use mathlib.Core.List.{List}
 use Prim.Native.Nat.{ℕ}
-use Rattle.model.specs.State.{State}
+use lib.ListN.{length}
+use Rattle.model.specs.State.{freeBlocks}
 use Rattle.calls.specs.Outcome.{Answer, Outcome}
-use Rattle.calls.specs.Book.{Book, enter}
+use Rattle.calls.specs.Book.{enter}
 use Rattle.calls.specs.History.{Call, run, entryOf, Past, pastAfter, step}
-use Rattle.calls.specs.Demand3.{Follows}
-use Rattle.calls.proofs.Demand3 as calls
+use Rattle.calls.specs.Demand3.{definitions, Defined, FromFormat}
+use Rattle.calls.proofs.Simulation.{Simulates, from-format, carry}
+use Rattle.calls.proofs.Demand3.{definitions-demand}
 use Rattle.device.specs.Reading.{readState}
 use Rattle.history.specs.Demand3.{Buffers, Runs, readPast, functions, Demand3}
 
-past-of : (s s′ : State) (p p′ : List ℕ) (b b′ : Book) → s ≡ s′ → p ≡ p′ → b ≡ b′ → _≡_ {A = Past} (record { state = s; spare = p; book = b }) (record { state = s′; spare = p′; book = b′ })
-past-of s s′ p p′ b b′ e f g =
-    ap (λ (x : State). record { state = x; spare = p; book = b }) e
-    ∙ ap (λ (x : List ℕ). record { state = s′; spare = x; book = b }) f
-    ∙ ap (λ (x : Book). record { state = s′; spare = p′; book = x }) g
-
 -- One run, read, is one step.
-run-step : (h : Buffers) (c : Call) (a : Answer) (h′ : Buffers) → Runs h c a h′ → readPast h′ ≡ step c (readPast h)
+run-step : (h : Buffers) (c : Call) (a : Answer) (h′ : Buffers) → Runs h c a h′ → Defined (readPast h) c a (readPast h′)
 unfolding step pastAfter
 run-step h c a h′ k =
     let o : Outcome = run c (readState (h .state)) (h .spare) in
     let r = k .ran in
-    past-of _ _ _ _ _ _ (r .stateRead) (r .spareLeft)
-    (k .entered ∙ ap (λ (x : Answer). enter (entryOf c x (k .plan) (k .erased)) (h .book)) (r .answered)
-    ∙ ap (λ (l : List ℕ). enter (entryOf c (o .answer) l (k .erased)) (h .book)) (r .planLeft)
-    ∙ ap (λ (l : List ℕ). enter (entryOf c (o .answer) (o .after .plan) l) (h .book)) (r .erasedLeft))
+    let b : h′ .book ≡ enter (entryOf c (o .answer) (o .after .plan) (o .after .erased)) (h .book) =
+    k .entered ∙ ap (λ (x : Answer). enter (entryOf c x (k .plan) (k .erased)) (h .book)) (r .answered)
+    ∙ ap₂ (λ (p q : List ℕ). enter (entryOf c (o .answer) p q) (h .book)) (r .planLeft) (r .erasedLeft) in
+    record { answered = r .answered; left = λ i. record { state = r .stateRead i; spare = r .spareLeft i; book = b i } }
 
--- The functions do what the definitions say.
-functions-follow : Follows functions
-functions-follow h c a h′ k = record { answered = k .ran .answered; left = run-step h c a h′ k }
+-- buffers are related to what they are read as
+abbrev Read : Buffers → Past → Type 0
+Read h k = readPast h ≡ k
+
+-- The functions simulate the definitions.
+simulates : Simulates functions definitions Read
+simulates = record {
+  books = λ h k r. ap (λ (p : Past). p .book) r;
+  frees = λ h k r. ap (λ (p : Past). length (freeBlocks 0 (p .state .counts))) r;
+  steps = λ h k r c a h′ made. (readPast h′, subst (λ (p : Past). Defined p c a (readPast h′)) r (run-step h c a h′ made), refl);
+  starts = λ h d a h′ made t. (readPast h, readPast h′, run-step h _ a h′ made, refl);
+}
+
+read-format : (h : Buffers) → FromFormat functions h → FromFormat definitions (readPast h)
+read-format h f = let k = from-format functions definitions Read simulates h f in subst (FromFormat definitions) (sym (k .2)) (k .1)
 
 -- Demand 3, of every list of runs.
 pub demand-3 : Demand3
-demand-3 = calls.demand-3 functions functions-follow
+demand-3 = record {
+  after = carry functions definitions Read simulates (definitions-demand .after);
+  agreements = λ g h f f′ i a i′ made.
+      definitions-demand .agreements (readPast g) (readPast h) (read-format g f) (read-format h f′) (readPast i) a (readPast i′) (run-step i _ a i′ made);
+}

@@ -3,11 +3,13 @@
 use mathlib.Core.Path.{_≡_}
 use mathlib.Core.List.{List}
 use Prim.Native.Nat.{ℕ}
+use lib.ListN.{length}
+use Rattle.model.specs.State.{freeBlocks}
 use Rattle.calls.specs.Outcome.{Answer}
 use Rattle.calls.specs.Book.{Book, enter}
 use Rattle.calls.specs.History.{Call, entryOf, Past}
 use Rattle.calls.specs.Demand3 as calls
-use Rattle.calls.specs.Demand3.{Machine}
+use Rattle.calls.specs.Demand3.{Machine, agreementOf}
 use Rattle.device.specs.Reading.{readState}
 use Rattle.device.specs.Ran.{Ran}
 
@@ -25,14 +27,18 @@ pub record Runs (h : Buffers) (c : Call) (a : Answer) (h′ : Buffers) : Type 0 
   pub ran : Ran c (h .state) (h .spare) a (h′ .state) (h′ .spare) plan erased
   pub entered : h′ .book ≡ enter (entryOf c a plan erased) (h .book)
 
+-- The functions as a machine.
+abbrev pub functions : Machine
+functions = record { Situation = Buffers; book = λ h. h .book; free = λ h. length (freeBlocks 0 (readState (h .state) .counts)); Makes = Runs }
+
 -- buffers as they are read
 abbrev pub readPast : Buffers → Past
 readPast h = record { state = readState (h .state); spare = h .spare; book = h .book }
 
--- The functions as a machine.
-abbrev pub functions : Machine
-functions = record { Situation = Buffers; past = readPast; Makes = Runs }
+-- the agreement of two states with their spare areas, as they are read
+abbrev pub agreement : Buffers → Buffers → Call
+agreement g h = agreementOf (readPast g) (readPast h)
 
 -- Demand 3 of the functions: of every list of runs.
 abbrev pub Demand3 : Type 0
-Demand3 = calls.Demand3 functions
+Demand3 = calls.Demand3 functions agreement

@@ -8,7 +8,7 @@ use lib.ListN.{length, getD, drop, drop-of-length-le, set, length-set}
 use lib.Seq.{drop-cons, drop-drop}
 use Rattle.model.specs.Lists.{store}
 use Rattle.model.specs.Learning.{Bounds, Run, runs}
-use Rattle.bytes.proofs.Stores.{store-nil, store-first}
+use Rattle.model.proofs.Lists.{store-nil, store-first}
 use Rattle.record.specs.declared.Record.{Record}
 use Rattle.record.specs.Read.{bare}
 use Rattle.learn.specs.Runs.{aheadOf, behind, runAt, records, counts}

@@ -8,7 +8,7 @@ use native.Mathlib.Omega.{arith}
 use native.Mathlib.Numerals.{add-one}
 use lib.ListN.{length, set}
 use Rattle.model.specs.Lists.{store}
-use Rattle.bytes.proofs.Stores.{store-nil, store-first}
+use Rattle.model.proofs.Lists.{store-nil, store-first}
 use Rattle.lines.specs.Script.{numberIn, fieldAt, joined, numbersFrom}
 use Rattle.lines.specs.Reading.{isThere, valueOf, valuesFrom}
 

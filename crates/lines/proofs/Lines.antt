@@ -9,7 +9,7 @@ use borrow.Author.Tests.{leb-true, eqb-true, le-leb, lt-leb, eq-eqb, ne-eqb}
 use lib.Dec.{eqb}
 use lib.ListN.{length}
 use Rattle.model.specs.Lists.{store}
-use Rattle.bytes.proofs.Stores.{store-nil}
+use Rattle.model.proofs.Lists.{store-nil}
 use Rattle.lines.specs.Script.{operationIn, numbersFrom, inColumns, fieldCount, takes, ScriptLine, call, bad, called, lineOf, numbersOf}
 use Rattle.lines.specs.declared.read.Line.the-variants as line
 use Rattle.lines.specs.Reading.{lineAnswer, isThere, valuesFrom}

@@ -8,8 +8,8 @@ use native.Mathlib.Numerals.{add-one}
 use lib.ListN.{length, getD, set, drop, replicate, length-append, length-replicate}
 use lib.Seq.{drop-cons}
 use Rattle.model.specs.Lists.{store}
-use Rattle.model.proofs.Lists.{length-store}
-use Rattle.bytes.proofs.Stores.{store-nil, store-first, store-one, store-then}
+use Rattle.model.proofs.Lists.{length-store, store-nil, store-first}
+use Rattle.bytes.proofs.Stores.{store-one, store-then}
 use Rattle.lines.specs.Printed.{signed, right, Laid}
 
 -- one more character is stored

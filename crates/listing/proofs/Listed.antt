@@ -11,7 +11,7 @@ use Rattle.model.specs.State.{State, groupAt}
 use Rattle.model.specs.Sound.{soundGroup}
 use Rattle.model.proofs.SoundGroup.{group-parts}
 use Rattle.calls.specs.Refusals.{Refusal, firstRefusal}
-use Rattle.calls.proofs.Decided.{clears}
+use Rattle.calls.proofs.Refusing.{clears}
 use Rattle.device.specs.declared.answers.Listed.{Listed}
 use Rattle.device.specs.declared.answers.Listed.the-variants as code
 use Rattle.device.specs.Listing.{records, listAnswer, Outcome, listChecks, listDone, outcome, list}
@@ -20,7 +20,7 @@ module _ (k : ℕ) (s : State) (out : List ℕ) where
   -- a group that is listed is sound
   listed-sound : firstRefusal (listChecks k s out) ≡ none → not (soundGroup (s .device .N) k (groupAt s k)) ≡ false
   unfolding listChecks
-  listed-sound e = clears _ _ (clears _ _ (clears _ _ (clears _ _ e .1) .1) .1) .0
+  listed-sound e = clears _ e .1 .1 .1 .0
 
   -- a listing that is not refused has the records of a sound group
   few-answered : (o : Option Refusal) (n : ℕ) → firstRefusal (listChecks k s out) ≡ o → records n ≡ outcome o out (listDone k s out) .answer → n ≤ 512

@@ -13,8 +13,8 @@ use Rattle.calls.specs.Refusals.{badNumbers, badLength, _when_, firstRefusal}
 use Rattle.calls.specs.Outcome.{Answer, number, accepted, formatted, Outcome}
 use Rattle.calls.specs.Format.{formatChecks, formatDone, format}
 use Rattle.calls.specs.History.{Call, formatCall, flushCall, lookupCall, collectCall, compactCall, lend, run}
-use Rattle.calls.proofs.Decided.{unless-accepts, passes, no-checks}
-use Rattle.device.proofs.Refusing.{right-length}
+use Rattle.calls.proofs.Decided.{unless-accepts}
+use Rattle.calls.proofs.Refusing.{right-length, is-clear}
 use Rattle.device.specs.Reading.{readState}
 use Rattle.device.specs.Ran.{Ran}
 use Rattle.listing.specs.Memory.{Obeyed, callOf, takesDevice, Ready, heldBy, Takes}
@@ -76,8 +76,7 @@ pub format-accepted : (d : Device) (state spare : List ℕ) → withinLimits d �
 unfolding run format formatChecks formatDone lend readState
 format-accepted d state spare within long fits =
     let clear : firstRefusal (formatChecks d (lend (readState state) spare [] [])) ≡ none =
-    passes (badNumbers when not (withinLimits d)) _ (rw within)
-    (passes (badLength when _) _ (rw (eq-eqb (length state) (stateLength d) long, right-length spare (spareLength d) fits)) no-checks) in
+    is-clear (formatChecks d (lend (readState state) spare [] [])) (rw within, (rw (eq-eqb (length state) (stateLength d) long, right-length spare (spareLength d) fits), tt)) in
     let q : run (formatCall d) (readState state) spare ≡ formatDone d (lend (readState state) spare [] []) = unless-accepts _ _ _ clear in
     ap (λ (o : Outcome). o .answer) q
 

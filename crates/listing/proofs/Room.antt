@@ -8,7 +8,7 @@ use native.Mathlib.Nat.{mul-le-mul-left}
 use borrow.Author.Tests.{leb-true, le-leb, lt-leb}
 use lib.Dec.{leb}
 use lib.ListN.{length}
-use Rattle.model.specs.Device.{Device, withinLimits, groupCount, entriesPerPage, entriesPerBlock, spareLength, headLength, countLength, groupLength, stateLength}
+use Rattle.model.specs.Device.{Device, withinLimits, groupCount, entriesPerPage, namesPerPage, entriesPerBlock, spareLength, headLength, countLength, groupLength, stateLength}
 use Rattle.model.proofs.Bools.{and-l, and-r}
 use Rattle.model.proofs.Limits.{Limits, limits}
 use Rattle.listing.specs.Memory.{takesDevice, Ready, heldBy}
@@ -46,7 +46,7 @@ module _ (d : Device) where
 
   -- each block has at least 4 spare entries
   four-entries : Limits d → d .M * 4 ≤ spareLength d
-  unfolding spareLength entriesPerBlock entriesPerPage
+  unfolding spareLength entriesPerBlock entriesPerPage namesPerPage
   four-entries l =
       let one : 1 ≤ 2 * d .g + 1 = omega arith in
       let four : 4 ≤ d .B * (2 * d .g + 1) = omega (arith, l .least-B, mul-le-mul-left (d .B) one) in

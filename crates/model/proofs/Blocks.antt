@@ -10,7 +10,7 @@ use lib.Dec.{eqb}
 use lib.ListN.{length, getD, set}
 use borrow.Author.Tests.{eqb-true, eqb-false, ne-eqb, not-true}
 use Rattle.model.specs.Lists.{elem}
-use Rattle.model.specs.State.{State, freeBlocks, usedBlocks, lowestFree}
+use Rattle.model.specs.State.{freeBlocks, usedBlocks, lowestIn}
 use Rattle.model.proofs.Lists.{elem-cons, no-elem, elem-getD, Asc, end, next, asc-lower}
 
 -- the blocks whose count passes a test, the first count being block k's
@@ -106,14 +106,10 @@ free-and-used k (c ∷ cs) = go (eqb c 0) refl (free-and-used (suc k) cs)
     go true e ih = rw (e, freeBlocks, usedBlocks) (omega arith)
     go false e ih = rw (e, freeBlocks, usedBlocks) (omega arith)
 
--- Where a block is free, so is the lowest free block.
-pub lowestFree-is : (s : State) → 1 ≤ length (freeBlocks 0 (s .counts)) → elem (lowestFree s) (freeBlocks 0 (s .counts)) ≡ true
-unfolding lowestFree
-lowestFree-is s h = elem-getD (freeBlocks 0 (s .counts)) 0 h
-
--- It is a block whose count is 0.
-pub lowestFree-free : (s : State) → 1 ≤ length (freeBlocks 0 (s .counts)) → (lowestFree s < length (s .counts)) × (getD (s .counts) (lowestFree s) 0 ≡ 0)
-lowestFree-free s h = free-only (s .counts) (lowestFree s) (lowestFree-is s h)
+-- Where a block is free, the lowest free one is a block whose count is 0.
+pub lowest-free : (cs : List ℕ) → 1 ≤ length (freeBlocks 0 cs) → (lowestIn cs < length cs) × (getD cs (lowestIn cs) 0 ≡ 0)
+unfolding lowestIn
+lowest-free cs h = free-only cs (lowestIn cs) (elem-getD (freeBlocks 0 cs) 0 h)
 
 -- 1 for the count of a free block, 0 for that of a used one
 freeCount : ℕ → ℕ

@@ -1,7 +1,7 @@
--- Tests joined by `&&` and `all`, taken apart and put together. Assumes nothing.
+-- Tests joined by `&&`, `||` and `all`, taken apart and put together. Assumes nothing.
 use mathlib.Core.Path.{_≡_, refl, sym}
 use mathlib.Core.List.{List, [], _∷_, _++_}
-use mathlib.Core.Bool.{true≢false, Bool, true, false, _&&_}
+use mathlib.Core.Bool.{true≢false, Bool, true, false, _&&_, _||_}
 use Rattle.model.specs.Lists.{all}
 
 pub and-l : (a b : Bool) → (a && b) ≡ true → a ≡ true
@@ -15,6 +15,14 @@ and-r false b e = absurd (true≢false (sym e))
 pub and-i : (a b : Bool) → a ≡ true → b ≡ true → (a && b) ≡ true
 and-i true b e f = f
 and-i false b e f = e
+
+pub or-none : (a b : Bool) → (a || b) ≡ false → (a ≡ false) × (b ≡ false)
+or-none true b e = absurd (true≢false e)
+or-none false b e = (refl, e)
+
+pub neither : (a b : Bool) → a ≡ false → b ≡ false → (a || b) ≡ false
+neither true b e f = e
+neither false b e f = f
 
 -- two tests that imply each other are equal
 pub iff-bool : (a b : Bool) → (a ≡ true → b ≡ true) → (b ≡ true → a ≡ true) → a ≡ b

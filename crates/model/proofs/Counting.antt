@@ -1,6 +1,6 @@
 -- Counting: distinct numbers, the pigeonhole, and the two least of several numbers. Assumes nothing.
 use mathlib.Core.Path.{_≡_, refl, sym, _∙_, ap}
-use mathlib.Core.List.{List, [], _∷_, _++_}
+use mathlib.Core.List.{List, [], _∷_, _++_, map}
 use mathlib.Core.Logic.{_≢_, _⊎_, inl, inr}
 use mathlib.Core.Bool.{true≢false, Bool, true, false, not}
 use Prim.Native.Nat.{ℕ, zero, suc, _+_, _*_, _≤_, _<_}
@@ -84,6 +84,34 @@ pub asc-distinct : {x : ℕ} {l : List ℕ} → Asc x l → distinct l ≡ true
 unfolding distinct
 asc-distinct end = refl
 asc-distinct (next {y = y} {l = l} h a) = distinct-cons y l (is-false (elem y l) (λ q. absurd (omega (arith, asc-elem a y q)))) (asc-distinct a)
+
+module _ (f : ℕ → ℕ) where
+  -- x comes from one of the numbers
+  pub record From (l : List ℕ) (x : ℕ) : Type 0 where
+    pub source : ℕ
+    pub among : elem source l ≡ true
+    pub gives : f source ≡ x
+
+  -- What is in a mapped list comes from a number of the list.
+  pub from : (l : List ℕ) (x : ℕ) → elem x (map f l) ≡ true → From l x
+  from [] x h = no-elem x h
+  from (y ∷ l) x h = go (elem-cons x (f y) (map f l) h) (λ k. from l x k)
+    where
+      go : (x ≡ f y) ⊎ (elem x (map f l) ≡ true) → (elem x (map f l) ≡ true → From l x) → From (y ∷ l) x
+      go (inl e) ih = record { source = y; among = elem-here y l; gives = sym e }
+      go (inr k) ih = let q = ih k in record { source = q .source; among = elem-there (q .source) y l (q .among); gives = q .gives }
+
+  -- Distinct numbers that give distinct ones.
+  pub map-distinct : (l : List ℕ) → ((x y : ℕ) → elem x l ≡ true → elem y l ≡ true → f x ≡ f y → x ≡ y) → distinct l ≡ true → distinct (map f l) ≡ true
+  unfolding distinct
+  map-distinct [] once h = refl
+  map-distinct (x ∷ l) once h =
+      distinct-cons (f x) (map f l) (is-false _ (λ m. out (from l (f x) m))) (map-distinct l (λ y z a b. once y z (elem-there y x l a) (elem-there z x l b)) (distinct-tail x l h))
+    where
+      out : From l (f x) → ⊥
+      out r =
+          let e : r .source ≡ x = once (r .source) x (elem-there (r .source) x l (r .among)) (elem-here x l) (r .gives) in
+          true≢false (sym (r .among) ∙ ap (λ (y : ℕ). elem y l) e ∙ distinct-head x l h)
 
 -- Distinct numbers stand at one place each.
 pub distinct-index : (l : List ℕ) (i j : ℕ) → distinct l ≡ true → i < length l → j < length l → getD l i 0 ≡ getD l j 0 → i ≡ j

@@ -6,12 +6,13 @@ use mathlib.Core.Option.{none, some}
 use mathlib.Core.Bool.{Bool, true, false}
 use Prim.Native.Nat.{ℕ, _+_, _-_, _≤_, _<_}
 use native.Mathlib.Omega.{arith}
+use native.Mathlib.Nat.{le-refl}
 use lib.Dec.{ltb}
 use lib.IntN.{pos}
 use lib.ListN.{length, getD}
 use borrow.Author.Tests.{ltb-true, ltb-false, lt-ltb}
 use Rattle.model.specs.Lists.{all, elem}
-use Rattle.model.specs.Device.{Device, withinLimits, pages, firstPage, offsetOf, groupOf, entriesPerPage, spareLength}
+use Rattle.model.specs.Device.{Device, withinLimits, pages, firstPage, offsetOf, groupOf, namesPerPage, spareLength}
 use Rattle.model.specs.Record.{Record, predict}
 use Rattle.model.specs.Spare.{nobody, entry, pageNamed, programBlock}
 use Rattle.model.specs.Learning.{Run, sorted, logicals, learn, recordsFor}
@@ -59,7 +60,7 @@ module _ (d : Device) (batch : List ℕ) (k : ℕ) (lent : List ℕ) (within : w
   named : (x : ℕ) → elem x written ≡ true → x < nobody
   named x q = omega (arith, all-below (d .N) batch logical x (sym (sorted-elem x batch) ∙ q), N-below-nobody d (limits d within))
 
-  image : Image d spare k written
+  image : Image d spare k written (length written)
   image = programBlock-image d written k lent block fits entire
 
   read-each : (i : ℕ) → i < length written → readBack d spare learned (getD written i 0) ≡ some (first + i)
@@ -78,7 +79,7 @@ module _ (d : Device) (batch : List ℕ) (k : ℕ) (lent : List ℕ) (within : w
           let m = met-some (offsetOf x) (records x) (t .line) (learn-met (d .g) first written asc x ∙ t .found) in
           let z : predict (m .0) (offsetOf x) ≡ pos (t .page) = predict-line (m .0) (t .line) (offsetOf x) (m .2) ∙ t .predicted in
           let there : pageNamed d spare (t .page) x ≡ some (first + i) =
-          page-named d spare k written i near x (t .page) image asc fits named block b refl q inside (omega (arith, t .above, t .from))
+          page-named d spare k written (length written) i near x (t .page) image asc fits (le-refl _) named block b refl q inside (omega (arith, t .above, t .from))
           (omega (arith, t .below, t .from)) in
           ap (readBy d spare x) (m .1) ∙ ap (readAt d spare x) z ∙ read-at d spare x (t .page) exists ∙ there
 
@@ -87,7 +88,7 @@ module _ (d : Device) (batch : List ℕ) (k : ℕ) (lent : List ℕ) (within : w
   read-other x n = ap (readBy d spare x) (met-none (offsetOf x) (records x)
       (learn-met (d .g) first written asc x ∙ learn-miss (d .g) first written asc x (sorted-elem x batch ∙ n) none))
 
-  entry-left : (i j : ℕ) → i < d .B → j < entriesPerPage d → entry d spare (first + i) j ≡ entryLeft d written i j
+  entry-left : (i j : ℕ) → i < d .B → j < namesPerPage d → entry d spare (first + i) j ≡ entryLeft d written i j
   unfolding entryLeft
   entry-left i j b m = go (ltb i (length written)) refl
     where

@@ -7,7 +7,7 @@ use native.Mathlib.Omega.{arith}
 use native.Mathlib.Nat.{mul-le-mul-left, mul-le-mul-right, mul-add-div-right, div-eq-of-lt, mod-lt, div-add-mod'}
 use lib.Dec.{ltb}
 use borrow.Author.Tests.{leb-true, le-leb, ltb-true, ltb-false}
-use Rattle.model.specs.Device.{Device, withinLimits, pages, firstPage, groupOf, groupCount, entriesPerPage, entriesPerBlock, spareLength}
+use Rattle.model.specs.Device.{Device, withinLimits, pages, firstPage, groupOf, groupCount, namesPerPage, entriesPerPage, entriesPerBlock, spareLength}
 use Rattle.model.specs.Spare.{nobody}
 use Rattle.model.proofs.Bools.{and-l, and-r, and-i}
 
@@ -83,14 +83,19 @@ pub page-split : (d : Device) (p : ℕ) → firstPage d (p / d .B) + p % d .B �
 unfolding firstPage
 page-split d p = div-add-mod' p (d .B)
 
--- A page has entries for every page as near as the error bound, on either side.
-pub near-inside : (d : Device) (j : ℕ) → j ≤ d .g + d .g → j < entriesPerPage d
-unfolding entriesPerPage
+-- A page has names for every page as near as the error bound, on either side.
+pub near-inside : (d : Device) (j : ℕ) → j ≤ d .g + d .g → j < namesPerPage d
+unfolding namesPerPage
 near-inside d j h = omega arith
 
 -- A page has a middle entry.
-pub g-inside : (d : Device) → d .g < entriesPerPage d
+pub g-inside : (d : Device) → d .g < namesPerPage d
 g-inside d = near-inside d (d .g) (omega arith)
+
+-- A page's names are entries of it.
+pub names-inside : (d : Device) → namesPerPage d ≤ entriesPerPage d
+unfolding entriesPerPage
+names-inside d = omega arith
 
 -- An entry of a block's page, counted from the block's first entry.
 pub entry-place : (d : Device) (k i j : ℕ) → (firstPage d k + i) * entriesPerPage d + j ≡ k * entriesPerBlock d + (i * entriesPerPage d + j)

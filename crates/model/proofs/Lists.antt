@@ -7,10 +7,10 @@ use Prim.Native.Nat.{ℕ, zero, suc, _+_, _≤_, _<_}
 use native.Mathlib.Omega.{arith}
 use native.Mathlib.Nat.{le-refl}
 use lib.Dec.{ltb, eqb}
-use lib.ListN.{length, getD}
+use lib.ListN.{length, getD, set, take}
 use borrow.Author.Tests.{ltb-true, eqb-true, eqb-false, eq-eqb, lt-ltb}
-use Rattle.model.specs.Lists.{elem, ascending, lastOf, select, store}
-use Rattle.model.proofs.Bools.{and-l, and-r, and-i}
+use Rattle.model.specs.Lists.{all, elem, ascending, lastOf, select, store}
+use Rattle.model.proofs.Bools.{and-l, and-r, and-i, all-head, all-tail, all-cons}
 
 pub elem-cons : (o y : ℕ) (l : List ℕ) → elem o (y ∷ l) ≡ true → (o ≡ y) ⊎ (elem o l ≡ true)
 unfolding elem
@@ -31,6 +31,38 @@ elem-there o y l h = go (eqb o y) refl
     go : (t : Bool) → eqb o y ≡ t → elem o (y ∷ l) ≡ true
     go true e = rw (e, elem)
     go false e = rw (e, elem) h
+
+-- all pass a test where each one does, and the other way round
+module _ (t : ℕ → Bool) where
+  pub all-each : (l : List ℕ) → ((x : ℕ) → elem x l ≡ true → t x ≡ true) → all t l ≡ true
+  unfolding all
+  all-each [] h = refl
+  all-each (y ∷ l) h = all-cons t y l (h y (elem-here y l)) (all-each l (λ x e. h x (elem-there x y l e)))
+
+  pub each-all : (l : List ℕ) → all t l ≡ true → (x : ℕ) → elem x l ≡ true → t x ≡ true
+  unfolding elem
+  each-all [] h x e = absurd (true≢false (sym e))
+  each-all (y ∷ l) h x e = go (elem-cons x y l e) (each-all l (all-tail t y l h) x)
+    where
+      go : (x ≡ y) ⊎ (elem x l ≡ true) → (elem x l ≡ true → t x ≡ true) → t x ≡ true
+      go (inl q) ih = rw q (all-head t y l h)
+      go (inr q) ih = ih q
+
+-- the order of two numbers in front doesn't matter
+pub elem-swap : (x y z : ℕ) (l : List ℕ) → elem x (y ∷ z ∷ l) ≡ elem x (z ∷ y ∷ l)
+unfolding elem
+elem-swap x y z l = go (eqb x y) (eqb x z)
+  where
+    go : (t u : Bool) → _≡_ {A = Bool} (elim t [ true ↦ true | false ↦ elim u [ true ↦ true | false ↦ elem x l ] ]) (elim u [ true ↦ true | false ↦ elim t [ true ↦ true | false ↦ elem x l ] ])
+    go true true = refl
+    go true false = refl
+    go false true = refl
+    go false false = refl
+
+-- nor the numbers behind, as far as they are the same
+pub elem-under : (x y : ℕ) (l m : List ℕ) → elem x l ≡ elem x m → elem x (y ∷ l) ≡ elem x (y ∷ m)
+unfolding elem
+elem-under x y l m h = ap (λ (t : Bool). elim (eqb x y) [ true ↦ true | false ↦ t ]) h
 
 -- l is what the test picks of the n numbers from x on
 pub record Picked (t : ℕ → Bool) (n x : ℕ) (l : List ℕ) : Type 0 where
@@ -171,6 +203,27 @@ getD-default (x ∷ l) zero a b h = refl
 getD-default (x ∷ l) (suc i) a b h = getD-default l i a b (omega arith)
 
 module _ {A : Type 0} where
+  -- nothing stored changes nothing
+  pub store-nil : (s : List A) (i : ℕ) → store s i [] ≡ s
+  unfolding store
+  store-nil [] i = refl
+  store-nil (x ∷ s) zero = refl
+  store-nil (x ∷ s) (suc i) = ap (λ (l : List A). x ∷ l) (store-nil s i)
+
+  -- the first element, then the others
+  pub store-first : (s : List A) (i : ℕ) (v : A) (vs : List A) → store s i (v ∷ vs) ≡ store (set s i v) (suc i) vs
+  unfolding store
+  store-first [] i v vs = refl
+  store-first (x ∷ s) zero v vs = refl
+  store-first (x ∷ s) (suc i) v vs = ap (λ (l : List A). x ∷ l) (store-first s i v vs)
+
+  -- what was stored at the front is the front
+  pub store-front : (s vs : List A) → length vs ≤ length s → take (length vs) (store s 0 vs) ≡ vs
+  unfolding store
+  store-front s [] h = refl
+  store-front [] (v ∷ vs) h = absurd (let z : ⊥ = omega arith in z)
+  store-front (x ∷ s) (v ∷ vs) h = ap (λ (l : List A). v ∷ l) (store-front s vs (omega arith))
+
   -- a store keeps the length
   pub length-store : (s : List A) (i : ℕ) (vs : List A) → length (store s i vs) ≡ length s
   unfolding store

@@ -2,7 +2,6 @@
 use mathlib.Core.Path.{_≡_, refl, sym, _∙_, ap}
 use mathlib.Core.List.{List}
 use mathlib.Core.Option.{some}
-use mathlib.Core.Logic.{_↔_}
 use mathlib.Core.Bool.{Bool, true, false}
 use Prim.Native.Nat.{ℕ, zero, suc, _+_, _-_, _≤_, _<_}
 use native.Mathlib.Omega.{arith}
@@ -10,7 +9,7 @@ use lib.Dec.{ltb, leb, eqb}
 use lib.ListN.{length, getD}
 use borrow.Author.Tests.{lt-ltb, le-leb, eqb-true, eq-eqb}
 use Rattle.model.specs.Lists.{elem, orElse}
-use Rattle.model.specs.Device.{Device, pages, firstPage, entriesPerPage}
+use Rattle.model.specs.Device.{Device, pages, firstPage, namesPerPage}
 use Rattle.model.specs.Spare.{nobody, entry, middle, entryRule, names, lowestNaming, pageNamed}
 use Rattle.model.proofs.Bools.{and-l, and-r, and-i, is-false}
 use Rattle.model.proofs.Lists.{Asc, elem-getD, getD-default}
@@ -48,14 +47,14 @@ record Naming (d : Device) (spare : List ℕ) (x p q : ℕ) : Type 0 where
   exists : p < pages d
   above : p ≤ q + d .g
   below : q ≤ p + d .g
-  yes-at : (j : ℕ) → j < entriesPerPage d → q + j ≡ p + d .g → entry d spare q j ≡ x
-  only-at : (j : ℕ) → j < entriesPerPage d → entry d spare q j ≡ x → q + j ≡ p + d .g
+  yes-at : (j : ℕ) → j < namesPerPage d → q + j ≡ p + d .g → entry d spare q j ≡ x
+  only-at : (j : ℕ) → j < namesPerPage d → entry d spare q j ≡ x → q + j ≡ p + d .g
 
 naming-page : (d : Device) (spare : List ℕ) (x p q : ℕ) → Naming d spare x p q → pageNamed d spare q x ≡ some p
 unfolding pageNamed middle orElse
 naming-page d spare x p q n = go (eqb (middle d spare q) x) refl
   where
-    go : (t : Bool) → eqb (middle d spare q) x ≡ t → orElse (eqb (middle d spare q) x) q (lowestNaming d spare q x 0 (entriesPerPage d)) ≡ some p
+    go : (t : Bool) → eqb (middle d spare q) x ≡ t → orElse (eqb (middle d spare q) x) q (lowestNaming d spare q x 0 (namesPerPage d)) ≡ some p
     go true e =
         let z : q + d .g ≡ p + d .g = n .only-at (d .g) (g-inside d) (eqb-true _ _ e) in
         let y : q ≡ p = omega arith in
@@ -65,17 +64,17 @@ naming-page d spare x p q n = go (eqb (middle d spare q) x) refl
         let a : p ≤ q + d .g = n .above in
         let b : q ≤ p + d .g = n .below in
         let c : p < pages d = n .exists in
-        let l : m < entriesPerPage d = near-inside d m (omega arith) in
+        let l : m < namesPerPage d = near-inside d m (omega arith) in
         let z : 0 + m ≡ m = omega arith in
         let y : names d spare q x m ≡ true = names-yes d spare q x m (omega arith) (omega arith) (n .yes-at m l (omega arith)) in
-        let r : lowestNaming d spare q x 0 (entriesPerPage d) ≡ some (q + (0 + m) - d .g) =
-        lowest-at d spare q x 0 (entriesPerPage d) m l (rw z y) (λ i k. is-false _ (λ h. absurd (omega (arith, n .only-at (0 + i) (omega arith) (names-entry d spare q x (0 + i) h))))) in
+        let r : lowestNaming d spare q x 0 (namesPerPage d) ≡ some (q + (0 + m) - d .g) =
+        lowest-at d spare q x 0 (namesPerPage d) m l (rw z y) (λ i k. is-false _ (λ h. absurd (omega (arith, n .only-at (0 + i) (omega arith) (names-entry d spare q x (0 + i) h))))) in
         let s : q + (0 + m) - d .g ≡ p = omega arith in
         rw (e, orElse) (r ∙ ap (λ (v : ℕ). some v) s)
 
--- x was programmed with L as page i of block k; q, page i′ of that batch, is at most g away.
-module _ (d : Device) (spare : List ℕ) (k : ℕ) (L : List ℕ) (i i′ x q : ℕ) (v : Image d spare k L) (a : Asc 0 L) (b : length L ≤ d .B) (s : (o : ℕ) → elem o L ≡ true → o < nobody) (m : k < d .M) (h : i < length L) (e : getD L i 0 ≡ x) (r : q ≡ firstPage d k + i′) (h′ : i′ < length L) (c : i ≤ i′ + d .g) (c′ : i′ ≤ i + d .g) where
-  named : (j : ℕ) → j < entriesPerPage d → entry d spare q j ≡ entryRule d L i′ j
+-- x is page i of the list L that block k was programmed with; q, a programmed page of that block, is at most g away.
+module _ (d : Device) (spare : List ℕ) (k : ℕ) (L : List ℕ) (n i i′ x q : ℕ) (v : Image d spare k L n) (a : Asc 0 L) (b : length L ≤ d .B) (w : n ≤ length L) (s : (o : ℕ) → elem o L ≡ true → o < nobody) (m : k < d .M) (h : i < length L) (e : getD L i 0 ≡ x) (r : q ≡ firstPage d k + i′) (h′ : i′ < n) (c : i ≤ i′ + d .g) (c′ : i′ ≤ i + d .g) where
+  named : (j : ℕ) → j < namesPerPage d → entry d spare q j ≡ entryRule d L i′ j
   named j l = rw r (v .written i′ j h′ (omega arith) l)
 
   naming : Naming d spare x (firstPage d k + i) q
@@ -90,8 +89,3 @@ module _ (d : Device) (spare : List ℕ) (k : ℕ) (L : List ℕ) (i i′ x q : 
   -- A lookup of x that is predicted on page q finds the page that x was programmed on.
   pub page-named : pageNamed d spare q x ≡ some (firstPage d k + i)
   page-named = naming-page d spare x (firstPage d k + i) q naming
-
-  -- That page is the predicted one exactly where the middle entry of the predicted page names x.
-  pub page-predicted : (firstPage d k + i ≡ q) ↔ (middle d spare q ≡ x)
-  unfolding middle
-  page-predicted = (λ z. naming .yes-at (d .g) (g-inside d) (omega arith), λ z. omega (arith, naming .only-at (d .g) (g-inside d) z))

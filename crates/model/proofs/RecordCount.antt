@@ -3,7 +3,7 @@ use mathlib.Core.Path.{_≡_, refl, sym, _∙_, ap}
 use mathlib.Core.List.{List, [], _∷_, flatten}
 use mathlib.Core.Option.{Option, none, some}
 use mathlib.Core.Logic.{_⊎_, inl, inr}
-use mathlib.Core.Bool.{true≢false, Bool, true, false, _||_}
+use mathlib.Core.Bool.{true≢false, true, false}
 use Prim.Native.Nat.{ℕ, suc, _+_, _≤_, _<_}
 use native.Mathlib.Omega.{arith}
 use lib.ListN.{length}
@@ -11,7 +11,7 @@ use Rattle.model.specs.Lists.{elem, distinct}
 use Rattle.model.specs.Record.{Record, member}
 use Rattle.model.specs.Levels.{Group, listing, recordCount, shrink, keep, insert, insertAll, memberOfAny, shrinkAll, putBack, compact}
 use Rattle.model.specs.Totals.{total}
-use Rattle.model.proofs.Bools.{is-false}
+use Rattle.model.proofs.Bools.{is-false, or-none}
 use Rattle.model.proofs.Lists.{elem-cons, no-elem}
 use Rattle.model.proofs.Shrink.{Outcome, gone, left, shrink-outcome}
 use Rattle.model.proofs.Counting.{distinct-cons, pigeonhole}
@@ -56,10 +56,6 @@ record Fresh (above : List Record) (xs : List ℕ) : Type 0 where
   below : (o : ℕ) → elem o xs ≡ true → o < 256
   apart : (o : ℕ) → elem o xs ≡ true → memberOfAny above o ≡ false
   once : distinct xs ≡ true
-
-or-none : (a b : Bool) → (a || b) ≡ false → (a ≡ false) × (b ≡ false)
-or-none true b e = absurd (true≢false e)
-or-none false b e = (refl, e)
 
 fresh : (above l : List Record) → Fresh above (starts (shrinkAll above l))
 unfolding shrinkAll starts keep distinct memberOfAny

@@ -10,7 +10,7 @@ use lib.Dec.{ltb}
 use lib.IntN.{ℤ, pos, negsuc, subℕ, _+ℤ_}
 use lib.ListN.{length, getD, take, drop}
 use Rattle.model.specs.Lists.{all, elem, ascending}
-use Rattle.model.specs.Device.{Device, withinLimits, pages, firstPage, groupOf, offsetOf, ceil, entriesPerPage, spareLength}
+use Rattle.model.specs.Device.{Device, withinLimits, pages, firstPage, groupOf, offsetOf, ceil, namesPerPage, spareLength}
 use Rattle.model.specs.Record.{Record, predict}
 use Rattle.model.specs.Spare.{nobody, entry, entryRule, programBlock, pageNamed}
 use Rattle.model.specs.Learning.{Run, Bounds, sorted, logicals, learn, recordsFor}
@@ -139,7 +139,7 @@ pub record Demanded (d : Device) (batch : List ℕ) (k : ℕ) (written : List �
   pub each : (i : ℕ) → i < length written → readBack d spare records (getD written i 0) ≡ some (firstPage d k + i)
   pub noOther : (x : ℕ) → elem x batch ≡ false → readBack d spare records x ≡ none
   -- "The spare entries count as much as the records": each entry of each of the block's B pages
-  pub entries : (i j : ℕ) → i < d .B → j < entriesPerPage d → entry d spare (firstPage d k + i) j ≡ entryLeft d written i j
+  pub entries : (i j : ℕ) → i < d .B → j < namesPerPage d → entry d spare (firstPage d k + i) j ≡ entryLeft d written i j
 
 -- Demand 2: for every device within limits, every batch of at most B logical pages below N, in any order and with repeats, every
 -- block, and a spare area of any content.

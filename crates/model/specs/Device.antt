@@ -43,9 +43,12 @@ offsetOf x = x % 256
 unfoldable pub groupCount : Device → ℕ
 groupCount d = ceil (d .N) 256
 
--- "Each page has 2g + 1 spare entries"
+-- "Each page has 2g + 1 spare entries": so many names, and no other entries
+unfoldable pub namesPerPage : Device → ℕ
+namesPerPage d = 2 * d .g + 1
+
 unfoldable pub entriesPerPage : Device → ℕ
-entriesPerPage d = 2 * d .g + 1
+entriesPerPage d = namesPerPage d
 
 -- the spare entries of a block
 unfoldable pub entriesPerBlock : Device → ℕ

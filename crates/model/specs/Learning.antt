@@ -1,6 +1,7 @@
 -- Document 01, 'Learning a batch': last arrivals, sorting, runs and their records. Assumes nothing.
 use mathlib.Core.List.{List, [], _∷_}
-use mathlib.Core.Bool.{true, false}
+use mathlib.Core.Option.{Option, none, some}
+use mathlib.Core.Bool.{Bool, true, false}
 use Prim.Native.Nat.{ℕ, zero, suc, _+_, _*_, _-_, min, max}
 use lib.Dec.{ltb, leb, eqb}
 use lib.IntN.{pos, subℕ}
@@ -35,6 +36,17 @@ arrivals i (x ∷ xs) = record { logical = x; source = i } ∷ arrivals (suc i) 
 -- "Repeated logical pages keep their last arrival. The rest are sorted"
 unfoldable pub sorted : List ℕ → List Write
 sorted batch = sort (arrivals 0 batch)
+
+-- of an arrival at index i and later ones, the latest
+unfoldable pub later : Bool → ℕ → Option ℕ → Option ℕ
+later t i (some j) = some j
+later true i none = some i
+later false i none = none
+
+-- the index of the latest arrival of x in a batch, whose first index is i
+unfoldable pub latest : ℕ → ℕ → List ℕ → Option ℕ
+latest x i [] = none
+latest x i (y ∷ l) = later (eqb x y) i (latest x (suc i) l)
 
 -- the logical pages and the sources of writes, in their order
 unfoldable pub logicals : List Write → List ℕ

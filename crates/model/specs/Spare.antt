@@ -6,7 +6,7 @@ use Prim.Native.Nat.{ℕ, zero, suc, _+_, _*_, _-_}
 use lib.Dec.{ltb, leb, eqb}
 use lib.ListN.{length, getD, replicate}
 use Rattle.model.specs.Lists.{store, orElse}
-use Rattle.model.specs.Device.{Device, pages, firstPage, entriesPerPage, entriesPerBlock}
+use Rattle.model.specs.Device.{Device, pages, firstPage, namesPerPage, entriesPerPage, entriesPerBlock}
 
 -- "4,294,967,295 if it wrote none there": the entry that names nobody
 abbrev pub nobody : ℕ
@@ -38,7 +38,7 @@ erase d k spare = store spare (k * entriesPerBlock d) (replicate (entriesPerBloc
 -- "programs each page of a block once after the erase": page i of block k
 unfoldable pub programPage : Device → List ℕ → ℕ → ℕ → List ℕ → List ℕ
 programPage d written k i spare =
-    store spare ((firstPage d k + i) * entriesPerPage d) (ruledEntries d written i 0 (entriesPerPage d))
+    store spare ((firstPage d k + i) * entriesPerPage d) (ruledEntries d written i 0 (namesPerPage d))
 
 -- pages i, i + 1, .. of block k, n of them
 unfoldable pub programPages : Device → List ℕ → ℕ → ℕ → ℕ → List ℕ → List ℕ
@@ -61,4 +61,4 @@ lowestNaming d spare p x j (suc n) = orElse (names d spare p x j) (p + j - d .g)
 -- "The page is the predicted one if its middle spare entry names the logical page, else the one of the lowest entry there
 -- that does": the page where p is predicted for x, if any
 unfoldable pub pageNamed : Device → List ℕ → ℕ → ℕ → Option ℕ
-pageNamed d spare p x = orElse (eqb (middle d spare p) x) p (lowestNaming d spare p x 0 (entriesPerPage d))
+pageNamed d spare p x = orElse (eqb (middle d spare p) x) p (lowestNaming d spare p x 0 (namesPerPage d))

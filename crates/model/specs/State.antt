@@ -37,6 +37,9 @@ unfoldable pub usedBlocks : ℕ → List ℕ → List ℕ
 usedBlocks k [] = []
 usedBlocks k (c ∷ cs) = elim (eqb c 0) [ true ↦ usedBlocks (suc k) cs | false ↦ k ∷ usedBlocks (suc k) cs ]
 
--- "the lowest-numbered free block", where there is one
-unfoldable pub lowestFree : State → ℕ
-lowestFree s = getD (freeBlocks 0 (s .counts)) 0 0
+-- "the lowest-numbered free block", where there is one: by the counts, and of a state
+unfoldable pub lowestIn : List ℕ → ℕ
+lowestIn counts = getD (freeBlocks 0 counts) 0 0
+
+abbrev pub lowestFree : State → ℕ
+lowestFree s = lowestIn (s .counts)

@@ -6,8 +6,8 @@ use native.Mathlib.Omega.{arith}
 use lib.ListN.{length}
 use Rattle.model.specs.Lists.{store}
 use Rattle.model.specs.Learning.{Bounds, Run}
-use Rattle.model.proofs.Lists.{length-store}
-use Rattle.bytes.proofs.Stores.{store-nil, store-then}
+use Rattle.model.proofs.Lists.{length-store, store-nil}
+use Rattle.bytes.proofs.Stores.{store-then}
 use Rattle.record.specs.declared.Record.{Record}
 use Rattle.record.specs.Read.{bare}
 use Rattle.record.specs.Coding.{eight}

@@ -9,7 +9,7 @@ use lib.Dec.{eqb}
 use lib.ListN.{length, getD}
 use borrow.Author.Tests.{lt-ltb, le-ltb, le-leb, lt-leb, leb-true, eq-eqb, ne-eqb}
 use Rattle.model.specs.Lists.{orElse}
-use Rattle.model.specs.Device.{Device, pages, entriesPerPage}
+use Rattle.model.specs.Device.{Device, pages, namesPerPage, entriesPerPage}
 use Rattle.model.specs.Spare.{nobody, entry, middle, names, lowestNaming, pageNamed}
 use Rattle.model.proofs.Bools.{and-l}
 use Rattle.model.proofs.Lists.{getD-default}
@@ -38,7 +38,8 @@ module _ (d : Device) (s : List ℕ) (p x j : ℕ) where
   names-from h = leb-true (d .g) (p + j) (search and-l)
 
 -- the search among the n entries of page p begins, ..
-pub lowest-start : (d : Device) (s : List ℕ) (p x n : ℕ) → n ≡ entriesPerPage d → lowestNaming d s p x 0 (entriesPerPage d) ≡ lowestNaming d s p x 0 (n - 0)
+pub lowest-start : (d : Device) (s : List ℕ) (p x n : ℕ) → n ≡ entriesPerPage d → lowestNaming d s p x 0 (namesPerPage d) ≡ lowestNaming d s p x 0 (n - 0)
+unfolding entriesPerPage
 lowest-start d s p x n e = let m : n - 0 ≡ n = omega arith in rw (m, e) refl
 
 -- .. is at entry j, ..
@@ -69,6 +70,6 @@ module _ (d : Device) (s : List ℕ) (p x r : ℕ) (e : r ≡ middle d s p) wher
   unfolding pageNamed orElse
   named-predicted y = rw (eq-eqb (middle d s p) x (sym e ∙ y))
 
-  pub named-near : (r ≡ x → ⊥) → lowestNaming d s p x 0 (entriesPerPage d) ≡ pageNamed d s p x
+  pub named-near : (r ≡ x → ⊥) → lowestNaming d s p x 0 (namesPerPage d) ≡ pageNamed d s p x
   unfolding pageNamed orElse
   named-near y = rw (ne-eqb (middle d s p) x (λ z. y (e ∙ z)))

@@ -8,8 +8,7 @@ use borrow.Author.Tests.{lt-ltb, le-ltb}
 use Rattle.model.specs.Lists.{store}
 use Rattle.model.specs.Device.{Device, firstPage, entriesPerPage}
 use Rattle.model.specs.Spare.{nobody, entryRule, ruledEntries, erase, programPage, programPages, programBlock}
-use Rattle.model.proofs.Lists.{getD-default}
-use Rattle.spare.proofs.Stores.{store-nil, store-cons}
+use Rattle.model.proofs.Lists.{getD-default, store-nil, store-first}
 
 module _ (d : Device) (w : List ℕ) (i j : ℕ) where
   pub rule-before : i + j < d .g → nobody ≡ entryRule d w i j
@@ -28,7 +27,7 @@ module _ (d : Device) (w : List ℕ) (i j : ℕ) where
 
 -- the loop over the n entries of page i of block k begins, ..
 pub page-start : (d : Device) (w : List ℕ) (k i : ℕ) (s : List ℕ) (n : ℕ) → n ≡ entriesPerPage d → programPage d w k i s ≡ store s ((k * d .B + i) * n + 0) (ruledEntries d w i 0 (n - 0))
-unfolding programPage firstPage
+unfolding programPage firstPage entriesPerPage
 page-start d w k i s n e =
     let m : n - 0 ≡ n = omega arith in
     let f : (k * d .B + i) * n + 0 ≡ (k * d .B + i) * n = omega arith in
@@ -42,7 +41,7 @@ module _ (d : Device) (w : List ℕ) (i : ℕ) (s : List ℕ) (a j n : ℕ) wher
       let m : n - j ≡ suc (n - (j + 1)) = omega arith in
       let e : j + 1 ≡ suc j = omega arith in
       let f : a + suc j ≡ suc (a + j) = omega arith in
-      rw (m, e, f, t) (store-cons s (a + j) (entryRule d w i j) (ruledEntries d w i (suc j) (n - suc j)))
+      rw (m, e, f, t) (store-first s (a + j) (entryRule d w i j) (ruledEntries d w i (suc j) (n - suc j)))
 
   -- .. and ends
   pub page-end : n ≤ j → store s (a + j) (ruledEntries d w i j (n - j)) ≡ s

@@ -4,7 +4,7 @@ use mathlib.Core.Bool.{true}
 use Prim.Native.Nat.{ℕ, _+_, _*_, _≤_, _<_}
 use native.Mathlib.Omega.{arith}
 use native.Mathlib.Nat.{mul-le-mul, mul-le-mul-right}
-use Rattle.model.specs.Device.{Device, withinLimits, pages, firstPage, entriesPerPage, entriesPerBlock, spareLength}
+use Rattle.model.specs.Device.{Device, withinLimits, pages, firstPage, namesPerPage, entriesPerPage, entriesPerBlock, spareLength}
 use Rattle.model.proofs.Limits.{limits, page-inside, block-in-spare}
 
 -- how large the sizes get
@@ -17,7 +17,7 @@ pub record Sizes (d : Device) : Type 0 where
   pub long : d .B ≤ 256
 
 pub sizes : (d : Device) → withinLimits d ≡ true → Sizes d
-unfolding pages entriesPerPage entriesPerBlock spareLength
+unfolding pages namesPerPage entriesPerPage entriesPerBlock spareLength
 sizes d h =
     let l = limits d h in
     let p : 2 * d .g + 1 ≤ 31 = omega (arith, l .most-g) in

@@ -7,26 +7,15 @@ use lib.ListN.{set, replicate}
 use Rattle.model.specs.Lists.{store}
 use Rattle.model.specs.Device.{Device, entriesPerBlock}
 use Rattle.model.specs.Spare.{nobody, erase}
+use Rattle.model.proofs.Lists.{store-nil, store-first}
 
 module _ {A : Type 0} where
-  pub store-nil : (s : List A) (i : ℕ) → store s i [] ≡ s
-  unfolding store
-  store-nil [] i = refl
-  store-nil (x ∷ s) zero = refl
-  store-nil (x ∷ s) (suc i) = ap (λ (l : List A). x ∷ l) (store-nil s i)
-
-  pub store-cons : (s : List A) (i : ℕ) (v : A) (vs : List A) → store s i (v ∷ vs) ≡ store (set s i v) (suc i) vs
-  unfolding store
-  store-cons [] i v vs = refl
-  store-cons (x ∷ s) zero v vs = refl
-  store-cons (x ∷ s) (suc i) v vs = ap (λ (l : List A). x ∷ l) (store-cons s i v vs)
-
   -- the loop that fills the places from i up to e
   pub fill-turn : (s : List A) (i e : ℕ) (v : A) → i < e → store s i (replicate (e - i) v) ≡ store (set s i v) (i + 1) (replicate (e - (i + 1)) v)
   fill-turn s i e v h =
       let m : e - i ≡ suc (e - (i + 1)) = omega arith in
       let n : i + 1 ≡ suc i = omega arith in
-      rw (m, n) (store-cons s i v (replicate (e - suc i) v))
+      rw (m, n) (store-first s i v (replicate (e - suc i) v))
 
   pub fill-end : (s : List A) (i e : ℕ) (v : A) → e ≤ i → store s i (replicate (e - i) v) ≡ s
   fill-end s i e v h = let m : e - i ≡ 0 = omega arith in rw m (store-nil s i)

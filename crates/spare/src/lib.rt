@@ -6,7 +6,7 @@ ghost use mathlib.Core.Bool.{true};
 ghost use Prim.Native.Nat.{_+_, _-_, _≤_, _<_};
 ghost use lib.ListN.{length, replicate};
 ghost use Rattle.model.specs.Lists.{store};
-ghost use Rattle.model.specs.Device.{withinLimits, pages, entriesPerPage, entriesPerBlock, spareLength};
+ghost use Rattle.model.specs.Device.{withinLimits, pages, namesPerPage, entriesPerPage, entriesPerBlock, spareLength};
 ghost use Rattle.model.specs.Spare.{nobody, entry, middle, entryRule, erase, programPage, programPages, programBlock, names, lowestNaming, pageNamed};
 ghost use Rattle.spare.specs.Read.{numbersOf, namedOf};
 
@@ -92,7 +92,7 @@ fn names(spare: &[u32], d: Numbers, p: u32, x: u32, j: u32) -> bool
 fn lowest_naming(spare: &[u32], d: Numbers, p: u32, x: u32) -> Named
     requires { ⌜ (withinLimits (numbersOf d) ≡ true) × (length (now spare) ≡ spareLength (numbersOf d))
         × (p < pages (numbersOf d)) ⌝ }
-    ensures { λ r. ⌜ namedOf r ≡ lowestNaming (numbersOf d) (now (spare .entry)) p x 0 (entriesPerPage (numbersOf d)) ⌝ }
+    ensures { λ r. ⌜ namedOf r ≡ lowestNaming (numbersOf d) (now (spare .entry)) p x 0 (namesPerPage (numbersOf d)) ⌝ }
 {
     let g = d.g;
     let n = entries_per_page(d);

@@ -1,7 +1,7 @@
 -- 2g + 1 as the model has it; g is at most 15, so it fits.
 use native.Mathlib.Omega.{arith}
 use mathlib.Core.Path.{refl}
-use Rattle.model.specs.Device.{entriesPerPage}
+use Rattle.model.specs.Device.{namesPerPage, entriesPerPage}
 use Rattle.spare.proofs.Sizes.{sizes}
 use Rattle.spare.proofs.entries_per_page.Statement.{statement}
 use Rattle.spare.proofs.entries_per_page.Tie as tie
@@ -13,7 +13,7 @@ add-result : tie.Need-add-result
 add-result c = omega (arith, sizes _ (c .before .pre) .bound)
 
 returns : tie.Need-returns
-unfolding entriesPerPage
+unfolding entriesPerPage namesPerPage
 returns c = refl
 
 pub entries-per-page-spec : {M : Type 1} → statement M

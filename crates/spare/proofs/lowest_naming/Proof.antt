@@ -2,7 +2,7 @@
 use native.Mathlib.Omega.{arith}
 use mathlib.Core.Path.{_≡_, sym, _∙_}
 use Prim.Native.Nat.{_-_, _≤_}
-use Rattle.model.specs.Device.{entriesPerPage}
+use Rattle.model.specs.Device.{namesPerPage}
 use Rattle.model.specs.Spare.{lowestNaming}
 use Rattle.spare.specs.Read.{numbersOf, namedOf}
 use Rattle.spare.proofs.Sizes.{sizes}
@@ -12,7 +12,7 @@ use Rattle.spare.proofs.lowest_naming.Tie as tie
 
 -- what the whole search finds is what the search from entry j on finds
 abbrev Inv-loop : tie.InvT-loop
-Inv-loop spare d p x g n j₀ j = (j ≤ n) × (lowestNaming (numbersOf d) spare p x 0 (entriesPerPage (numbersOf d)) ≡ lowestNaming (numbersOf d) spare p x j (n - j))
+Inv-loop spare d p x g n j₀ j = (j ≤ n) × (lowestNaming (numbersOf d) spare p x 0 (namesPerPage (numbersOf d)) ≡ lowestNaming (numbersOf d) spare p x j (n - j))
 
 abbrev μ-loop : tie.MeasureT-loop
 μ-loop spare d p x g n j₀ j = n - j

@@ -1,13 +1,13 @@
 -- The middle entry is entry g, and a page has one.
 use native.Mathlib.Omega.{arith}
 use Rattle.model.specs.Spare.{middle}
-use Rattle.model.proofs.Limits.{g-inside}
+use Rattle.model.proofs.Limits.{g-inside, names-inside}
 use Rattle.spare.specs.Read.{numbersOf}
 use Rattle.spare.proofs.middle.Statement.{statement}
 use Rattle.spare.proofs.middle.Tie as tie
 
 entry-requires : tie.Need-entry-requires
-entry-requires c κs = (c .before .pre .0, c .before .pre .1, c .before .pre .2, omega (arith, g-inside (numbersOf (c .before .args .d))))
+entry-requires c κs = (c .before .pre .0, c .before .pre .1, c .before .pre .2, omega (arith, g-inside (numbersOf (c .before .args .d)), names-inside (numbersOf (c .before .args .d))))
 
 returns : tie.Need-returns
 unfolding middle

@@ -9,7 +9,8 @@ use Rattle.model.specs.Device.{Device}
 use Rattle.model.specs.Learning.{logicals, sources}
 use Rattle.model.proofs.Limits.{limits}
 use Rattle.model.proofs.Sorting.{logicals-length, sources-length}
-use Rattle.calls.specs.Collection.{victims, blocksOf, moves, noGain}
+use Rattle.calls.specs.Choice.{blocksOf, noGain}
+use Rattle.calls.specs.Collection.{victims, moves}
 use Rattle.calls.specs.History.{lend}
 use Rattle.spare.specs.Read.{numbersOf}
 use Rattle.device.specs.Reading.{readState}

@@ -3,7 +3,7 @@ use native.Mathlib.Omega.{arith}
 use mathlib.Core.Path.{_≡_, refl}
 use Prim.Native.Nat.{_-_, _≤_, _<_}
 use lib.ListN.{length}
-use Rattle.model.specs.State.{lowestFree}
+use Rattle.model.specs.State.{lowestFree, lowestIn}
 use Rattle.device.specs.Reading.{readState}
 use Rattle.device.proofs.Places.{small}
 use Rattle.device.proofs.Shaping.{length-counts}
@@ -25,7 +25,7 @@ left : (c : tie.After-loop Inv-loop μ-loop) → length (readState (c .before .b
 left c = omega (arith, c .loop-test .left, length-counts _ _ (c .before .before .before .pre))
 
 loop-holds : tie.Need-loop-holds Inv-loop μ-loop
-unfolding lowestFree lowestFrom
+unfolding lowestIn lowestFrom
 loop-holds c = (omega arith, refl)
 
 count-requires : tie.Need-count-requires Inv-loop μ-loop

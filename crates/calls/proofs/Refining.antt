@@ -1,0 +1,194 @@
+-- The definitions simulate the page map: each call answers what the map answers, and leaves state, spare area and book that show what
+-- the map leaves. Assumes nothing.
+use mathlib.Core.Path.{_≡_, refl, sym, _∙_, ap, ap₂, subst}
+use mathlib.Core.List.{List, [], _∷_}
+use mathlib.Core.Option.{Option, none, some}
+use mathlib.Core.Bool.{true≢false, Bool, true, false, not, _&&_}
+use Prim.Native.Nat.{ℕ, _≤_, _<_}
+use native.Mathlib.Omega.{arith}
+use lib.ListN.{length}
+use borrow.Author.Tests.{ltb-false, leb-false, not-false}
+use Rattle.model.specs.Device.{Device, withinLimits, firstPage}
+use Rattle.model.specs.Learning.{Write, sorted}
+use Rattle.model.specs.State.{State, withGroups, freeBlocks, lowestIn, lowestFree}
+use Rattle.model.specs.Sound.{isEmpty}
+use Rattle.calls.specs.Refusals.{Refusal, Check, firstRefusal}
+use Rattle.calls.specs.Outcome.{Lent, Answer, flushed, refused, accepted, Outcome, unless}
+use Rattle.calls.specs.Format.{blankState, format, formatChecks, formatDone}
+use Rattle.calls.specs.Flush.{writeBlock, flush, flushDone}
+use Rattle.calls.specs.Lookup.{seek, answerOf, lookup}
+use Rattle.calls.specs.Collection.{moveAll, collect, collectDone}
+use Rattle.calls.specs.Compaction.{compaction, compactDone, compactGroup}
+use Rattle.calls.specs.Agreement.{agree, agreeAnswer, agreeChecks, agrees}
+use Rattle.calls.specs.Book.{Entry, noEntry, enter}
+use Rattle.calls.specs.History.{Call, formatCall, flushCall, lookupCall, collectCall, compactCall, agreeCall, lend, run, acceptedEntry, entryOf, Past, pastAfter, step}
+use Rattle.calls.specs.PageMap.{PageMap, mapMoves, mapWrite, mapErase, blankMap, mapChecks, MapAnswers, formats, flushes, finds, misses, collects, compacts, noLists, mapDone, MapPast, mapIdle, mapAfter, MapMakes, others}
+use Rattle.calls.specs.PageMap as maps
+use Rattle.calls.specs.Demand3.{pageMaps, Defined, definitions}
+use Rattle.calls.proofs.Refusing.{clears, refused-not-accepted}
+use Rattle.calls.proofs.Fitting.{batch-ready, batch-filled, fits-of, some-there, some-left}
+use Rattle.calls.proofs.Invariant.{Inv}
+use Rattle.calls.proofs.Found.{mapOf, seek-found, seek-nowhere}
+use Rattle.calls.proofs.Keeping.{format-inv, compact-inv}
+use Rattle.calls.proofs.Collected.{Rest, rest, moved-rest, moved-inv, collectBy, collect-same, collect-rest, collect-inv}
+use Rattle.calls.proofs.Decided.{Decided, refuses, accepts, decided}
+use Rattle.calls.proofs.Passing.{format-checks, flush-checks, lookup-checks, compact-checks, collect-checks}
+use Rattle.calls.proofs.Simulation.{Simulates}
+
+-- State, spare area and book show a page map with its book.
+pub record Shows (h : Past) (k : MapPast) : Type 0 where
+  pub device : h .state .device ≡ k .map .device
+  pub counts : h .state .counts ≡ k .map .counts
+  pub inv : Inv (h .state) (h .spare) (k .map .place)
+  pub book : h .book ≡ k .book
+
+-- what comes of a call shows what the map makes of it
+abbrev Simulated : Call → Past → MapPast → Outcome → Type 0
+Simulated c h k o = (k′ : MapPast) × MapMakes k c (o .answer) k′ × Shows (pastAfter c o (h .book)) k′
+
+-- the map beside a state, its spare area and its book
+abbrev beside : PageMap → Past → MapPast
+beside m h = record { map = m; book = h .book }
+
+-- the book is fed nothing of a refused call
+refused-entry : (c : Call) (r : Refusal) (plan erased : List ℕ) → entryOf c (refused r) plan erased ≡ noEntry
+unfolding entryOf
+refused-entry c r plan erased = ap (λ (t : Bool). elim t [ true ↦ acceptedEntry c (refused r) plan erased | false ↦ noEntry ]) (refused-not-accepted r)
+
+-- an accepted call: the map accepts it with this answer, and what is left shows what the map leaves
+done : (c : Call) (h : Past) (m : PageMap) (out : Outcome) (sized : Bool) → firstRefusal (mapChecks sized c m) ≡ none → MapAnswers m c (out .answer)
+    → Rest (out .after) (mapDone c m .map .device) (mapDone c m .map .counts) (mapDone c m .plan) (mapDone c m .erased)
+    → Inv (out .after .state) (out .after .spare) (mapDone c m .map .place) → Simulated c h (beside m h) out
+unfolding pastAfter mapAfter
+done c h m out sized e a r v = (
+  mapAfter c (out .answer) (mapDone c m) (h .book),
+  maps.accepts sized c (out .answer) e a,
+  record {
+    device = r .device;
+    counts = r .counts;
+    inv = v;
+    book = ap₂ (λ (p q : List ℕ). enter (entryOf c (out .answer) p q) (h .book)) (r .plan) (r .erased);
+  },
+)
+
+-- a format that is accepted, whatever was there before
+format-made : (d : Device) (h : Past) (m : PageMap) (sized : Bool) → firstRefusal (mapChecks sized (formatCall d) m) ≡ none
+    → Simulated (formatCall d) h (beside m h) (formatDone d (lend (h .state) (h .spare) [] []))
+unfolding formatDone blankState blankMap mapChecks mapDone noLists lend
+format-made d h m sized e =
+    done (formatCall d) h m _ sized e (formats d) (rest _) (format-inv d (not-false (withinLimits d) (clears _ e .0)))
+
+-- writes are on the lowest-numbered free block
+write-moves : (ws : List Write) (x : Lent) → 1 ≤ length ws → writeBlock ws (lowestFree (x .state)) x ≡ moveAll ws x
+unfolding moveAll
+write-moves [] x h = absurd (omega arith)
+write-moves (w ∷ ws) x h = refl
+
+module _ (h : Past) (place : ℕ → Option ℕ) (v : Inv (h .state) (h .spare) place) where
+  abbrev m : PageMap
+  m = mapOf (h .state) place
+
+  -- a refused call changes nothing
+  idle : (c : Call) (r : Refusal) (plan erased : List ℕ) → Shows (pastAfter c (record { answer = refused r; after = lend (h .state) (h .spare) plan erased }) (h .book)) (mapIdle (beside m h))
+  unfolding lend pastAfter mapIdle
+  idle c r plan erased = record { device = refl; counts = refl; inv = v; book = ap (λ (n : Entry). enter n (h .book)) (refused-entry c r plan erased) }
+
+  -- a call with these checks, which refuse as the map's do
+  decide : (c : Call) (checks : List Check) (plan erased : List ℕ) (out : Outcome) (sized : Bool) → firstRefusal checks ≡ firstRefusal (mapChecks sized c m)
+      → (firstRefusal (mapChecks sized c m) ≡ none → Simulated c h (beside m h) out) → Simulated c h (beside m h) (unless checks (lend (h .state) (h .spare) plan erased) out)
+  decide c checks plan erased out sized same work = go _ (decided checks x out)
+    where
+      x : Lent
+      x = lend (h .state) (h .spare) plan erased
+
+      go : (o : Outcome) → Decided checks x out o → Simulated c h (beside m h) o
+      go o (accepts e) = work (sym same ∙ e)
+      go o (refuses r e) = (mapIdle (beside m h), maps.refuses sized c r (sym same ∙ e), idle c r plan erased)
+
+  flush-made : (batch plan : List ℕ) → firstRefusal (mapChecks true (flushCall batch plan) m) ≡ none → Simulated (flushCall batch plan) h (beside m h) (flushDone batch (lend (h .state) (h .spare) plan []))
+  unfolding flushDone mapChecks mapDone mapWrite lend
+  flush-made batch plan e =
+      let x : Lent = lend (h .state) (h .spare) plan [] in
+      let p = clears _ e in
+      let f = fits-of (m .device) batch plan (p .0) (p .1 .0) (p .1 .1 .0) in
+      let two : 2 ≤ length (freeBlocks 0 (m .counts)) = ltb-false (length (freeBlocks 0 (m .counts))) 2 (p .1 .1 .1 .0) in
+      subst (λ (y : Lent). Simulated (flushCall batch plan) h (beside m h) (record { answer = flushed (firstPage (m .device) (lowestIn (m .counts))) (length (sorted batch)); after = y }))
+      (sym (write-moves (sorted batch) x (batch-filled batch (f .filled))))
+      (done (flushCall batch plan) h m _ true e (flushes batch plan) (moved-rest (sorted batch) x) (moved-inv (sorted batch) x place v (batch-ready (m .device) batch plan f) (λ n. omega arith)))
+
+  lookup-made : (x : ℕ) → firstRefusal (mapChecks true (lookupCall x) m) ≡ none
+      → Simulated (lookupCall x) h (beside m h) (record { answer = answerOf (seek (h .state) (h .spare) x); after = lend (h .state) (h .spare) [] [] })
+  unfolding mapChecks mapDone noLists lend answerOf
+  lookup-made x e = done (lookupCall x) h m _ true e (answers (place x) refl) (rest _) v
+    where
+      below : x < m .device .N
+      below = leb-false (m .device .N) x (clears _ e .0)
+
+      answers : (o : Option ℕ) → place x ≡ o → MapAnswers m (lookupCall x) (answerOf (seek (h .state) (h .spare) x))
+      answers none q = rw (seek-nowhere (h .state) (h .spare) place v x below q) (misses x _ q)
+      answers (some p) q = rw (seek-found (h .state) (h .spare) place v x p (v .placed x p below q) .sought) (finds x p _ _ q)
+
+  compact-made : (k : ℕ) → firstRefusal (mapChecks true (compactCall k) m) ≡ none → Simulated (compactCall k) h (beside m h) (compactDone k (lend (h .state) (h .spare) [] []))
+  unfolding compactDone compactGroup withGroups mapDone noLists lend
+  compact-made k e = done (compactCall k) h m _ true e (compacts k _) (rest _) (compact-inv (h .state) (h .spare) place v k)
+
+  collect-made : (plan erased : List ℕ) → firstRefusal (mapChecks true (collectCall plan erased) m) ≡ none
+      → Simulated (collectCall plan erased) h (beside m h) (collectDone (lend (h .state) (h .spare) plan erased))
+  unfolding collectBy mapChecks mapDone mapErase mapWrite lend
+  collect-made plan erased e =
+      let x : Lent = lend (h .state) (h .spare) plan erased in
+      subst (λ (o : Outcome). Simulated (collectCall plan erased) h (beside m h) o) (sym (collect-same x place v))
+      (done (collectCall plan erased) h m _ true e (collects plan erased) (collect-rest x place v) (collect-inv x place v (room (clears _ e .1 .1 .0))))
+    where
+      room : (not (isEmpty (mapMoves m)) && isEmpty (freeBlocks 0 (m .counts))) ≡ false → 1 ≤ length (mapMoves m) → 1 ≤ length (freeBlocks 0 (m .counts))
+      room t n = some-there (freeBlocks 0 (m .counts)) (rw (some-left (mapMoves m) n) at t)
+
+  -- an agreement is of two states that the map doesn't know
+  agree-made : (s : State) (spare : List ℕ) (s′ : State) (spare′ : List ℕ)
+      → Simulated (agreeCall s spare s′ spare′) h (beside m h) (record { answer = agree s spare s′ spare′; after = lend (h .state) (h .spare) [] [] })
+  unfolding agree agreeAnswer mapChecks firstRefusal mapDone noLists lend
+  agree-made s spare s′ spare′ = go (firstRefusal (agreeChecks s spare s′ spare′))
+    where
+      go : (o : Option Refusal) → Simulated (agreeCall s spare s′ spare′) h (beside m h) (record { answer = agreeAnswer o (agrees s spare s′ spare′); after = lend (h .state) (h .spare) [] [] })
+      go none = done (agreeCall s spare s′ spare′) h m _ true refl (maps.agrees s spare s′ spare′ _) (rest _) v
+      go (some r) = (mapIdle (beside m h), others s spare s′ spare′ r, idle (agreeCall s spare s′ spare′) r [] [])
+
+  -- every call
+  made : (c : Call) → Simulated c h (beside m h) (run c (h .state) (h .spare))
+  unfolding run format flush lookup collect compaction lend
+  made (formatCall d) = decide (formatCall d) _ [] [] _ _ (format-checks d (h .state) (h .spare) [] [] m) (format-made d h m _)
+  made (flushCall batch plan) = decide (flushCall batch plan) _ plan [] _ true (flush-checks (h .state) (h .spare) place v batch plan []) (flush-made batch plan)
+  made (lookupCall x) = decide (lookupCall x) _ [] [] _ true (lookup-checks (h .state) (h .spare) place v x [] []) (lookup-made x)
+  made (collectCall plan erased) = decide (collectCall plan erased) _ plan erased _ true (collect-checks (h .state) (h .spare) place v plan erased) (collect-made plan erased)
+  made (compactCall k) = decide (compactCall k) _ [] [] _ true (compact-checks (h .state) (h .spare) place v k [] []) (compact-made k)
+  made (agreeCall s spare s′ spare′) = agree-made s spare s′ spare′
+
+-- An accepted format, wherever it is made.
+started : (h : Past) (d : Device) → accepted (run (formatCall d) (h .state) (h .spare) .answer) ≡ true → Simulated (formatCall d) h (beside (blankMap d) h) (run (formatCall d) (h .state) (h .spare))
+unfolding run format
+started h d t = go _ (decided (formatChecks d x) x (formatDone d x)) t
+  where
+    x : Lent
+    x = lend (h .state) (h .spare) [] []
+
+    go : (o : Outcome) → Decided (formatChecks d x) x (formatDone d x) o → accepted (o .answer) ≡ true → Simulated (formatCall d) h (beside (blankMap d) h) o
+    go o (refuses r e) t = absurd (true≢false (sym t ∙ refused-not-accepted r))
+    go o (accepts e) t = format-made d h (blankMap d) _ (sym (format-checks d (h .state) (h .spare) [] [] (blankMap d)) ∙ e)
+
+-- a call of the definitions, by what comes of it
+simulated : (h : Past) (k : MapPast) (c : Call) (a : Answer) (h′ : Past) → Defined h c a h′ → Simulated c h k (run c (h .state) (h .spare)) → (k′ : MapPast) × MapMakes k c a k′ × Shows h′ k′
+unfolding step
+simulated h k c a h′ made s = (s .0, rw (made .answered) (s .1), rw (made .left) (s .2))
+
+-- The definitions simulate the page map.
+pub refines : Simulates definitions pageMaps Shows
+refines = record {
+  books = λ h k r. r .book;
+  frees = λ h k r. ap (λ (l : List ℕ). length (freeBlocks 0 l)) (r .counts);
+  steps = λ h k r c a h′ d.
+      let same : beside (mapOf (h .state) (k .map .place)) h ≡ k = λ i. record { map = record { device = r .device i; counts = r .counts i; place = k .map .place }; book = r .book i } in
+      simulated h k c a h′ d (subst (λ (k : MapPast). Simulated c h k (run c (h .state) (h .spare))) same (made h (k .map .place) (r .inv) c));
+  starts = λ h d a h′ made t.
+      let s = simulated h (beside (blankMap d) h) (formatCall d) a h′ made (started h d (ap accepted (sym (made .answered)) ∙ t)) in
+      (beside (blankMap d) h, s .0, s .1, s .2);
+}
