@@ -52,7 +52,7 @@ module _ (s : State) (spare : List ℕ) where
   -- two valid pages of one logical page are one
   valid-once : (p q : ℕ) → valid s spare p ≡ true → valid s spare q ≡ true → middle (s .device) spare p ≡ middle (s .device) spare q → p ≡ q
   unfolding valid
-  valid-once p q a b e = one-given p q (seek s spare (middle (s .device) spare p)) (and-r _ _ a) (rw e (and-r (ltb (middle (s .device) spare q) (s .device .N)) _ b))
+  valid-once p q a b e = one-given p q (seek s spare (middle (s .device) spare p)) (and-r (ltb (middle (s .device) spare p) (s .device .N)) _ a) (rw e (and-r (ltb (middle (s .device) spare q) (s .device .N)) _ b))
 
   -- The logical pages of what is taken are distinct.
   pub taken-named-once : distinct (map (middle (s .device) spare) (pagesOf (victims s spare))) ≡ true
