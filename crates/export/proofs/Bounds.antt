@@ -168,20 +168,20 @@ module _ (s : State) (counted : length (s .counts) ≡ s .device .M) (l : Limits
       go (k ∷ f) e = omega (arith, lowest-free (s .counts) (omega (arith, ap length e)) .0)
 
   victims-most : (spare : List ℕ) → length (blocksOf (victims s spare)) ≤ 4096
-  unfolding victims victimsBy
+  unfolding victimsBy
   victims-most spare =
       let us : List Used = map (usedBy (valid s spare) (s .device)) (usedBlocks 0 (s .counts)) in
       omega (arith, taken-most (s .device .B) (ranked us), ranked-length us, length-map (usedBlocks 0 (s .counts)) (usedBy (valid s spare) (s .device)), free-and-used 0 (s .counts), l .most-M)
 
   moves-most : (spare : List ℕ) → length (moves s spare) ≤ 256
-  unfolding moves movesBy victims
+  unfolding movesBy
   moves-most spare =
       let name : ℕ → ℕ = middle (s .device) spare in
       let ps : List ℕ = pagesOf (victims s spare) in
       omega (arith, sort-length (map (copyBy name) ps), length-map ps (copyBy name), pages-fit (valid s spare) (s .device) (s .counts), l .most-B)
 
   first-moved : (ws : List Write) → firstMoved ws s < bit20
-  unfolding firstMoved firstOf
+  unfolding firstOf
   first-moved [] = omega arith
   first-moved (w ∷ ws) = lowest-small
 
