@@ -14,9 +14,9 @@ use Rattle.calls.specs.Flush.{writeState, writeBlock}
 use Rattle.calls.specs.Choice.{blocksOf}
 use Rattle.calls.specs.Collection.{victims, moves, moveAll, eraseBlock, eraseBlocks, listErased, firstMoved, collectDone}
 use Rattle.calls.specs.History.{lend}
-use Rattle.batch.proofs.SortStores.{drop-next}
-use Rattle.device.specs.Shaped.{Shaped}
-use Rattle.device.proofs.Shaping.{shaped-counts, shaped-groups}
+use Rattle.sorting.proofs.SortStores.{drop-next}
+use Rattle.state.specs.Shaped.{Shaped}
+use Rattle.state.proofs.Shaping.{shaped-counts, shaped-groups}
 
 -- state s′ and spare area spare′ are what block k's erasing leaves of s and spare, whatever the lists
 abbrev pub Erases : State → List ℕ → ℕ → State → List ℕ → Type 0

@@ -20,15 +20,15 @@ use Rattle.calls.proofs.Decided.{unless-accepts}
 use Rattle.calls.proofs.Refusing.{stops, goes-on, right-length, wrong-length, no-checks}
 use Rattle.spare.specs.Read.{numbersOf}
 use Rattle.spare.specs.declared.Numbers.{Numbers}
-use Rattle.device.specs.declared.answers.Refusal as code
-use Rattle.device.specs.declared.opening.Opened.{Opened}
-use Rattle.device.specs.declared.opening.Opened.the-variants as opened
-use Rattle.device.specs.Answers.{refusalOf}
-use Rattle.device.specs.Reading.{readState}
-use Rattle.device.specs.Shaped.{Shaped, Passed}
-use Rattle.device.specs.Opening.{stateChecks}
-use Rattle.device.specs.Ran.{Ran}
-use Rattle.device.proofs.Refusing.{ran-refused, numbers-there, state-right, not-opened}
+use Rattle.state.specs.declared.answers.Refusal as code
+use Rattle.state.specs.declared.opening.Opened.{Opened}
+use Rattle.state.specs.declared.opening.Opened.the-variants as opened
+use Rattle.state.specs.Answers.{refusalOf}
+use Rattle.state.specs.Reading.{readState}
+use Rattle.state.specs.Shaped.{Shaped, Passed}
+use Rattle.state.specs.Opening.{stateChecks}
+use Rattle.state.specs.Ran.{Ran}
+use Rattle.state.proofs.Refusing.{ran-refused, numbers-there, state-right, not-opened}
 use Rattle.collection.specs.Admitting.{Admits}
 
 -- What the checks before any counting answered: the device, or the refusal.

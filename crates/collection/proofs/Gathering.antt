@@ -12,7 +12,7 @@ use Rattle.model.proofs.Lists.{store-front}
 use Rattle.calls.specs.Choice.{pagesOf}
 use Rattle.calls.specs.Collection.{usedBlock}
 use Rattle.bytes.proofs.Stores.{store-then}
-use Rattle.batch.proofs.SortStores.{drop-next}
+use Rattle.sorting.proofs.SortStores.{drop-next}
 
 -- What was stored at the front is the front.
 pub front : (s t vs : List ℕ) (n : ℕ) → t ≡ store s 0 vs → n ≡ length vs → length vs ≤ length s → take n t ≡ vs

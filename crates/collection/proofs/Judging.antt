@@ -22,13 +22,13 @@ use Rattle.model.proofs.SoundGroups.{group-sound}
 use Rattle.calls.specs.Lookup.{at, seek}
 use Rattle.calls.specs.Choice.{usedBy}
 use Rattle.calls.specs.Collection.{gives, valid, usedBlock}
-use Rattle.batch.proofs.SortStores.{drop-next}
+use Rattle.sorting.proofs.SortStores.{drop-next}
 use Rattle.spare.proofs.Sizes.{page-small}
-use Rattle.device.specs.Shaped.{countOf, Passed}
-use Rattle.device.specs.Answers.{soughtOf}
-use Rattle.device.specs.declared.answers.Sought.{Sought}
-use Rattle.device.specs.declared.answers.Sought.the-variants.{At, Nowhere, Unnamed}
-use Rattle.device.proofs.answers.Sought.{the-type}
+use Rattle.state.specs.Shaped.{countOf, Passed}
+use Rattle.state.specs.Answers.{soughtOf}
+use Rattle.state.specs.declared.answers.Sought.{Sought}
+use Rattle.state.specs.declared.answers.Sought.the-variants.{At, Nowhere, Unnamed}
+use Rattle.state.proofs.answers.Sought.{the-type}
 use Rattle.collection.specs.Tally.{freeEntry, tallyAt, tallyFrom, tallyOf}
 
 -- a lookup that ends in another way than with a page gives none

@@ -24,10 +24,10 @@ use Rattle.calls.specs.Choice.{blocksOf, pagesOf, copyBy, movesBy, firstOf}
 use Rattle.calls.specs.Collection.{valid, victims, moves, moveAll, firstMoved}
 use Rattle.calls.specs.History.{lend}
 use Rattle.calls.proofs.Choosing.{pages-fit}
-use Rattle.batch.specs.Keys.{writes, rising}
-use Rattle.batch.proofs.SortDistinct.{distinct-length, writes-rising}
-use Rattle.device.proofs.Places.{small, pages-small}
-use Rattle.device.specs.Shaped.{Passed}
+use Rattle.sorting.specs.Keys.{writes, rising}
+use Rattle.sorting.proofs.SortDistinct.{distinct-length, writes-rising}
+use Rattle.state.proofs.Places.{small, pages-small}
+use Rattle.state.specs.Shaped.{Passed}
 use Rattle.collection.proofs.Gathering.{gathered, front}
 use Rattle.collection.proofs.Taken.{taken-again, taken-named, taken-named-once, taken-in}
 

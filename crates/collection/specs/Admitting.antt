@@ -6,10 +6,10 @@ use Rattle.calls.specs.Refusals.{firstRefusal}
 use Rattle.calls.specs.Outcome.{Lent}
 use Rattle.calls.specs.Collection.{collectChecks}
 use Rattle.spare.specs.Read.{numbersOf}
-use Rattle.device.specs.Shaped.{Passed}
-use Rattle.device.specs.Answers.{refusalOf}
-use Rattle.device.specs.declared.opening.Opened.{Opened}
-use Rattle.device.specs.declared.opening.Opened.the-variants as opened
+use Rattle.state.specs.Shaped.{Passed}
+use Rattle.state.specs.Answers.{refusalOf}
+use Rattle.state.specs.declared.opening.Opened.{Opened}
+use Rattle.state.specs.declared.opening.Opened.the-variants as opened
 
 -- What the checks before any counting answer: the device numbers where 1, 2 and 3 don't apply, the plan's length (B entries) and the
 -- second list's (M entries) included; else the refusal.

@@ -1,6 +1,6 @@
 // The taken blocks are erased.
-use device::counts::set_count;
 use spare::Numbers;
+use state::counts::set_count;
 ghost use mathlib.Core.Path.{_≡_};
 ghost use mathlib.Core.Bool.{true};
 ghost use mathlib.Core.List.{List};
@@ -12,8 +12,8 @@ ghost use Rattle.model.specs.Device.{spareLength};
 ghost use Rattle.calls.specs.Collection.{eraseBlock, eraseBlocks};
 ghost use Rattle.calls.specs.History.{lend};
 ghost use Rattle.spare.specs.Read.{numbersOf};
-ghost use Rattle.device.specs.Reading.{readState};
-ghost use Rattle.device.specs.Shaped.{Shaped};
+ghost use Rattle.state.specs.Reading.{readState};
+ghost use Rattle.state.specs.Shaped.{Shaped};
 
 // Block k is erased: its entries, and its count.
 fn erase_block(state: &mut [u8], spare: &mut [u32], d: Numbers, k: u32)

@@ -1,6 +1,6 @@
 // What is moved: the valid pages of the taken blocks, sorted by logical page.
 use crate::validity::valid;
-use batch::sort::sort_writes;
+use sorting::sort::sort_writes;
 use spare::Numbers;
 ghost use mathlib.Core.Path.{_≡_};
 ghost use mathlib.Core.Bool.{true};
@@ -14,8 +14,8 @@ ghost use Rattle.model.specs.Learning.{logicals, sources as sourcesOf};
 ghost use Rattle.calls.specs.Choice.{pagesOf, blocksOf};
 ghost use Rattle.calls.specs.Collection.{usedBlock, victims, moves};
 ghost use Rattle.spare.specs.Read.{numbersOf};
-ghost use Rattle.device.specs.Reading.{readState};
-ghost use Rattle.device.specs.Shaped.{Passed};
+ghost use Rattle.state.specs.Reading.{readState};
+ghost use Rattle.state.specs.Shaped.{Passed};
 
 // Block k's valid pages and their logical pages are added behind the first n; how many there are then.
 fn gather_block(

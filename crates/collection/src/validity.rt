@@ -1,9 +1,9 @@
 // Valid pages: which pages are, and how many each block has.
 use crate::choose::FREE;
-use device::answers::Sought;
-use device::counts::count;
-use device::lookup::seek;
 use spare::Numbers;
+use state::answers::Sought;
+use state::counts::count;
+use state::seek::seek;
 ghost use mathlib.Core.Path.{_≡_};
 ghost use Prim.Native.Nat.{_<_, _≤_};
 ghost use lib.ListN.{length};
@@ -11,8 +11,8 @@ ghost use Rattle.model.specs.Lists.{store};
 ghost use Rattle.model.specs.Device.{pages};
 ghost use Rattle.calls.specs.Collection.{valid, usedBlock};
 ghost use Rattle.spare.specs.Read.{numbersOf};
-ghost use Rattle.device.specs.Reading.{readState};
-ghost use Rattle.device.specs.Shaped.{countOf, Passed};
+ghost use Rattle.state.specs.Reading.{readState};
+ghost use Rattle.state.specs.Shaped.{countOf, Passed};
 ghost use Rattle.collection.specs.Tally.{tallyAt, tallyOf};
 
 // Whether page p is valid: its middle entry is below N and lookup of that gives this page.

@@ -11,7 +11,7 @@ use Rattle.model.proofs.SoundGroup.{compact-sound}
 use Rattle.group.specs.Reading.{readGroup}
 use Rattle.group.specs.Held.{Held}
 use Rattle.group.proofs.Holding.{sound-held, held-read}
-use Rattle.table.specs.Shown.{Tidy}
+use Rattle.insertion.specs.Shown.{Tidy}
 use Rattle.compaction.proofs.Whole.{sound-tidy}
 
 module _ (n k : ℕ) (s : List ℕ) (sound : soundGroup n k (readGroup s) ≡ true) where

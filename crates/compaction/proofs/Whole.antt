@@ -21,12 +21,12 @@ use Rattle.group.specs.Layout.{slotsOf, ownerOf}
 use Rattle.group.specs.Cutting.{Placed, flat}
 use Rattle.group.specs.Held.{slotFor, Held}
 use Rattle.slots.specs.View.{Shows}
-use Rattle.table.specs.Slots.{records}
-use Rattle.table.specs.CompactSlots.{shrinkSlots}
-use Rattle.table.specs.Shown.{weight, Shown, Tidy}
-use Rattle.table.proofs.Weights.{among-total}
-use Rattle.table.proofs.Count.{records-flat, length-flat}
-use Rattle.table.proofs.Compact.{shrink-flat}
+use Rattle.insertion.specs.Slots.{records}
+use Rattle.insertion.specs.CompactSlots.{shrinkSlots}
+use Rattle.insertion.specs.Shown.{weight, Shown, Tidy}
+use Rattle.insertion.proofs.Weights.{among-total}
+use Rattle.insertion.proofs.Count.{records-flat, length-flat}
+use Rattle.insertion.proofs.Compact.{shrink-flat}
 
 -- sound in its group, sound in some group
 anywhere : (n k : ℕ) (l : List Record) → all (soundRecord n k) l ≡ true → all (soundRecord 256 0) l ≡ true

@@ -39,10 +39,10 @@ use Rattle.calls.specs.History.{Call, formatCall, flushCall, lookupCall, collec
 use Rattle.calls.proofs.Ranking.{ranked-length}
 use Rattle.calls.proofs.Choosing.{pages-fit}
 use Rattle.calls.proofs.Refusing.{none-some, clears}
-use Rattle.table.proofs.Count.{length-flat, levels-few}
-use Rattle.device.specs.Reading.{readState}
-use Rattle.device.specs.Ran.{Ran}
-use Rattle.device.proofs.Tables.{length-from}
+use Rattle.insertion.proofs.Count.{length-flat, levels-few}
+use Rattle.state.specs.Reading.{readState}
+use Rattle.state.specs.Ran.{Ran}
+use Rattle.state.proofs.Tables.{length-from}
 use Rattle.export.specs.Packing.{bit20, Fitting}
 
 -- A refusal's number is at most 8.

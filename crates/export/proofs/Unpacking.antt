@@ -14,7 +14,7 @@ use Rattle.calls.specs.Refusals.{Refusal, refusalNumber, firstRefusal}
 use Rattle.calls.specs.Outcome.{Answer, formatted, flushed, found, notWritten, collected, compacted, agreed, refused}
 use Rattle.calls.specs.History.{Call}
 use Rattle.calls.proofs.Refusing.{clears}
-use Rattle.device.specs.Listing as listing
+use Rattle.lookup.specs.Listing as listing
 use Rattle.export.specs.Packing.{bit20, bit40, bit56, bit60, packed, packedListing, Fitting, Packs}
 use Rattle.export.proofs.Bounds.{ran-fits}
 

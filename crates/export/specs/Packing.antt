@@ -8,8 +8,8 @@ use Rattle.model.specs.Device.{Device, withinLimits, stateLength, spareLength}
 use Rattle.calls.specs.Refusals.{refusalNumber}
 use Rattle.calls.specs.Outcome.{Answer, formatted, flushed, found, notWritten, collected, compacted, agreed, refused}
 use Rattle.calls.specs.History.{Call}
-use Rattle.device.specs.Ran.{Ran}
-use Rattle.device.specs.Listing as listing
+use Rattle.state.specs.Ran.{Ran}
+use Rattle.lookup.specs.Listing as listing
 
 -- The places of the fields behind the first.
 abbrev pub bit20 : ℕ

@@ -2,22 +2,22 @@
 mod pack;
 
 use collection::collect::collect;
-use device::agree::agree;
-use device::compact::compact;
-use device::format::format;
-use device::list::list;
-use device::lookup::lookup;
-use device::numbers::state_len;
-use device::numbers::within_limits;
 use flush::flush;
+use lookup::agree::agree;
+use lookup::list::list;
+use lookup::lookup::lookup;
 use spare::Numbers;
+use state::numbers::state_len;
+use state::numbers::within_limits;
+use upkeep::compact::compact;
+use upkeep::format::format;
 ghost use mathlib.Core.Path.{_≡_};
 ghost use mathlib.Core.List.{List, []};
 ghost use Prim.Native.Nat.{ℕ};
 ghost use Rattle.calls.specs.History.{formatCall, flushCall, lookupCall, collectCall, compactCall, agreeCall};
-ghost use Rattle.device.specs.Reading.{numbersAt, readState};
-ghost use Rattle.device.specs.Outside.{SameOutside};
-ghost use Rattle.device.specs.Listing.{list};
+ghost use Rattle.state.specs.Reading.{numbersAt, readState};
+ghost use Rattle.state.specs.Outside.{SameOutside};
+ghost use Rattle.lookup.specs.Listing.{list};
 ghost use Rattle.export.specs.Packing.{packedListing, Packs, stateLen, spareLen};
 
 // The length of the state, in bytes; 0 where the numbers are outside their limits.

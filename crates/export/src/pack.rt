@@ -1,17 +1,17 @@
 // A call's answer as one number: `refusal × 2^60 + …`.
-use device::answers::Agreed;
-use device::answers::Collected;
-use device::answers::Compacted;
-use device::answers::Flushed;
-use device::answers::Formatted;
-use device::answers::Listed;
-use device::answers::Lookup;
-use device::answers::Refusal;
-use device::answers::number;
+use state::answers::Agreed;
+use state::answers::Collected;
+use state::answers::Compacted;
+use state::answers::Flushed;
+use state::answers::Formatted;
+use state::answers::Listed;
+use state::answers::Lookup;
+use state::answers::Refusal;
+use state::answers::number;
 ghost use mathlib.Core.Path.{_≡_};
 ghost use Rattle.calls.specs.Outcome.{refused};
-ghost use Rattle.device.specs.Answers.{refusalOf, formatAnswer, flushAnswer, lookupAnswer, collectAnswer, compactAnswer, agreeAnswer};
-ghost use Rattle.device.specs.Listing.{listAnswer};
+ghost use Rattle.state.specs.Answers.{refusalOf, formatAnswer, flushAnswer, lookupAnswer, collectAnswer, compactAnswer, agreeAnswer};
+ghost use Rattle.lookup.specs.Listing.{listAnswer};
 ghost use Rattle.export.specs.Packing.{packed, packedListing, Fitting};
 
 // The places of the fields behind the first.

@@ -9,7 +9,7 @@ use lib.ListN.{length, getD, drop, drop-of-length-le}
 use borrow.Author.Tests.{lt-ltb, le-ltb}
 use Rattle.model.specs.Lists.{all}
 use Rattle.model.specs.Sound.{isEmpty}
-use Rattle.batch.proofs.SortStores.{drop-next}
+use Rattle.sorting.proofs.SortStores.{drop-next}
 
 -- An empty batch has a wrong size; of any other its length decides.
 pub none-there : (batch : List ℕ) (t : Bool) → length batch ≡ 0 → true ≡ (isEmpty batch || t)

@@ -16,9 +16,9 @@ use Rattle.calls.specs.Outcome.{Lent}
 use Rattle.calls.specs.Flush.{flushChecks}
 use Rattle.calls.specs.History.{lend}
 use Rattle.calls.proofs.Refusing.{stops, goes-on, right-length, wrong-length, no-checks}
-use Rattle.device.specs.Shaped.{Shaped}
-use Rattle.device.specs.Opening.{stateChecks}
-use Rattle.device.proofs.Refusing.{numbers-there, state-right, not-opened}
+use Rattle.state.specs.Shaped.{Shaped}
+use Rattle.state.specs.Opening.{stateChecks}
+use Rattle.state.proofs.Refusing.{numbers-there, state-right, not-opened}
 
 -- the lengths tested one by one, or two at once
 or-more : (a b c : Bool) → (a || (b || c)) ≡ (a || b || c)

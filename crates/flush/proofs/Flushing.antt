@@ -25,15 +25,15 @@ use Rattle.calls.proofs.Fitting.{fits-of}
 use Rattle.calls.proofs.Refusing.{clears, length-is}
 use Rattle.spare.specs.Read.{numbersOf}
 use Rattle.spare.specs.declared.Numbers.{Numbers}
-use Rattle.device.specs.declared.answers.Refusal as code
-use Rattle.device.specs.declared.opening.Opened.{Opened}
-use Rattle.device.specs.declared.opening.Opened.the-variants as opened
-use Rattle.device.specs.Reading.{readState}
-use Rattle.device.specs.Shaped.{Shaped}
-use Rattle.device.specs.Answers.{refusalOf}
-use Rattle.device.specs.Ran.{Ran}
-use Rattle.device.proofs.Refusing.{ran-refused}
-use Rattle.device.proofs.Shaping.{length-counts}
+use Rattle.state.specs.declared.answers.Refusal as code
+use Rattle.state.specs.declared.opening.Opened.{Opened}
+use Rattle.state.specs.declared.opening.Opened.the-variants as opened
+use Rattle.state.specs.Reading.{readState}
+use Rattle.state.specs.Shaped.{Shaped}
+use Rattle.state.specs.Answers.{refusalOf}
+use Rattle.state.specs.Ran.{Ran}
+use Rattle.state.proofs.Refusing.{ran-refused}
+use Rattle.state.proofs.Shaping.{length-counts}
 use Rattle.flush.specs.Clearing.{Clears}
 
 -- by what the check answered

@@ -15,7 +15,7 @@ use Rattle.model.specs.State.{State}
 use Rattle.model.proofs.Lists.{of-asc, length-store, store-front, all-each, each-all}
 use Rattle.model.proofs.Sorting.{sort-asc, sorted-elem, logicals-length, sources-length, sorted-length}
 use Rattle.calls.specs.Flush.{writeState}
-use Rattle.batch.specs.Keys.{writes}
+use Rattle.sorting.specs.Keys.{writes}
 
 -- Pages below n are below any greater number.
 pub below-more : (n m : ℕ) (l : List ℕ) → n ≤ m → all (λ x. ltb x n) l ≡ true → all (λ x. ltb x m) l ≡ true

@@ -7,10 +7,10 @@ use Rattle.calls.specs.Refusals.{firstRefusal}
 use Rattle.calls.specs.Outcome.{Lent}
 use Rattle.calls.specs.Flush.{flushChecks}
 use Rattle.spare.specs.Read.{numbersOf}
-use Rattle.device.specs.declared.opening.Opened.{Opened}
-use Rattle.device.specs.declared.opening.Opened.the-variants as opened
-use Rattle.device.specs.Shaped.{Shaped}
-use Rattle.device.specs.Answers.{refusalOf}
+use Rattle.state.specs.declared.opening.Opened.{Opened}
+use Rattle.state.specs.declared.opening.Opened.the-variants as opened
+use Rattle.state.specs.Shaped.{Shaped}
+use Rattle.state.specs.Answers.{refusalOf}
 
 -- device numbers are given where none applies, else the first that does
 unfoldable pub Clears : List ℕ → Lent → Opened → Type 0

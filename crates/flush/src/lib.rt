@@ -1,16 +1,14 @@
 // Flush: a batch goes to the lowest-numbered free block.
-pub mod writing;
-
-use crate::writing::write_block;
-use batch::sort::sort_batch;
-use device::answers::Flushed;
-use device::answers::Refusal;
-use device::counts::free_count;
-use device::counts::lowest_free;
-use device::groups::sound;
-use device::opening::Opened;
-use device::opening::check_state;
+use sorting::sort::sort_batch;
 use spare::Numbers;
+use state::answers::Flushed;
+use state::answers::Refusal;
+use state::counts::free_count;
+use state::counts::lowest_free;
+use state::groups::sound;
+use state::opening::Opened;
+use state::opening::check_state;
+use writing::block::write_block;
 ghost use mathlib.Core.Path.{_≡_};
 ghost use mathlib.Core.Bool.{true, _||_};
 ghost use mathlib.Core.List.{[]};
@@ -25,10 +23,10 @@ ghost use Rattle.model.specs.Sound.{isEmpty, soundState};
 ghost use Rattle.calls.specs.Flush.{writeState};
 ghost use Rattle.calls.specs.History.{flushCall, lend};
 ghost use Rattle.spare.specs.Read.{numbersOf};
-ghost use Rattle.device.specs.Reading.{readState};
-ghost use Rattle.device.specs.Shaped.{Shaped};
-ghost use Rattle.device.specs.Answers.{flushAnswer};
-ghost use Rattle.device.specs.Ran.{Ran};
+ghost use Rattle.state.specs.Reading.{readState};
+ghost use Rattle.state.specs.Shaped.{Shaped};
+ghost use Rattle.state.specs.Answers.{flushAnswer};
+ghost use Rattle.state.specs.Ran.{Ran};
 ghost use Rattle.flush.specs.Clearing.{Clears};
 
 // Whether the size is wrong: "5, batch empty or longer than B".

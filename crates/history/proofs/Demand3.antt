@@ -11,7 +11,7 @@ use Rattle.calls.specs.History.{Call, run, entryOf, Past, pastAfter, step}
 use Rattle.calls.specs.Demand3.{definitions, Defined, FromFormat}
 use Rattle.calls.proofs.Simulation.{Simulates, from-format, carry}
 use Rattle.calls.proofs.Demand3.{definitions-demand}
-use Rattle.device.specs.Reading.{readState}
+use Rattle.state.specs.Reading.{readState}
 use Rattle.history.specs.Demand3.{Buffers, Runs, readPast, functions, Demand3}
 
 -- One run, read, is one step.

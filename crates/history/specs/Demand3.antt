@@ -10,8 +10,8 @@ use Rattle.calls.specs.Book.{Book, enter}
 use Rattle.calls.specs.History.{Call, entryOf, Past}
 use Rattle.calls.specs.Demand3 as calls
 use Rattle.calls.specs.Demand3.{Machine, agreementOf}
-use Rattle.device.specs.Reading.{readState}
-use Rattle.device.specs.Ran.{Ran}
+use Rattle.state.specs.Reading.{readState}
+use Rattle.state.specs.Ran.{Ran}
 
 -- The lent bytes and entries between two calls, and the book so far.
 pub record Buffers : Type 0 where

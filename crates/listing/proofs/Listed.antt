@@ -12,9 +12,9 @@ use Rattle.model.specs.Sound.{soundGroup}
 use Rattle.model.proofs.SoundGroup.{group-parts}
 use Rattle.calls.specs.Refusals.{Refusal, firstRefusal}
 use Rattle.calls.proofs.Refusing.{clears}
-use Rattle.device.specs.declared.answers.Listed.{Listed}
-use Rattle.device.specs.declared.answers.Listed.the-variants as code
-use Rattle.device.specs.Listing.{records, listAnswer, Outcome, listChecks, listDone, outcome, list}
+use Rattle.state.specs.declared.answers.Listed.{Listed}
+use Rattle.state.specs.declared.answers.Listed.the-variants as code
+use Rattle.lookup.specs.Listing.{records, listAnswer, Outcome, listChecks, listDone, outcome, list}
 
 module _ (k : ℕ) (s : State) (out : List ℕ) where
   -- a group that is listed is sound

@@ -15,8 +15,8 @@ use Rattle.calls.specs.Format.{formatChecks, formatDone, format}
 use Rattle.calls.specs.History.{Call, formatCall, flushCall, lookupCall, collectCall, compactCall, lend, run}
 use Rattle.calls.proofs.Decided.{unless-accepts}
 use Rattle.calls.proofs.Refusing.{right-length, is-clear}
-use Rattle.device.specs.Reading.{readState}
-use Rattle.device.specs.Ran.{Ran}
+use Rattle.state.specs.Reading.{readState}
+use Rattle.state.specs.Ran.{Ran}
 use Rattle.listing.specs.Memory.{Obeyed, callOf, takesDevice, Ready, heldBy, Takes}
 use Rattle.listing.specs.declared.lent.Held.{Held}
 use Rattle.listing.specs.declared.lent.Taken.{Taken}

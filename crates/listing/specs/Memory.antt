@@ -9,7 +9,7 @@ use lib.ListN.{length, take, replicate}
 use Rattle.model.specs.Device.{Device, withinLimits, stateLength, spareLength}
 use Rattle.calls.specs.Outcome.{number}
 use Rattle.calls.specs.History.{Call, formatCall, flushCall, lookupCall, collectCall, compactCall, run}
-use Rattle.device.specs.Reading.{readState}
+use Rattle.state.specs.Reading.{readState}
 use Rattle.listing.specs.declared.lent.Held.{Held}
 use Rattle.listing.specs.declared.lent.Taken.{Taken}
 use Rattle.listing.specs.declared.lent.Taken.the-variants as taken

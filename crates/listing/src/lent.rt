@@ -1,18 +1,18 @@
 // The calls on the parts of the program's memory that the device uses. Each answers the refusal's number, 0 where it is accepted.
 use collection::collect::collect;
-use device::answers::Collected;
-use device::answers::Compacted;
-use device::answers::Flushed;
-use device::answers::Formatted;
-use device::answers::Lookup;
-use device::answers::number;
-use device::compact::compact;
-use device::format::format;
-use device::lookup::lookup;
-use device::numbers::state_len;
-use device::numbers::within_limits;
 use flush::flush;
+use lookup::lookup::lookup;
 use spare::Numbers;
+use state::answers::Collected;
+use state::answers::Compacted;
+use state::answers::Flushed;
+use state::answers::Formatted;
+use state::answers::Lookup;
+use state::answers::number;
+use state::numbers::state_len;
+use state::numbers::within_limits;
+use upkeep::compact::compact;
+use upkeep::format::format;
 ghost use mathlib.Core.Path.{_≡_};
 ghost use mathlib.Core.List.{List};
 ghost use Prim.Native.Nat.{ℕ, _≤_};
@@ -20,7 +20,7 @@ ghost use lib.ListN.{length, replicate};
 ghost use Rattle.calls.specs.Outcome.{number as numberOf};
 ghost use Rattle.calls.specs.History.{formatCall, flushCall, lookupCall, collectCall, compactCall};
 ghost use Rattle.spare.specs.Read.{numbersOf};
-ghost use Rattle.device.specs.Answers.{formatAnswer, flushAnswer, lookupAnswer, collectAnswer, compactAnswer};
+ghost use Rattle.state.specs.Answers.{formatAnswer, flushAnswer, lookupAnswer, collectAnswer, compactAnswer};
 ghost use Rattle.listing.specs.Memory.{takesDevice, Ready, Obeyed, callOf, Takes};
 
 // The lengths in use: bytes of state, spare entries, blocks, pages of a block. All are 0 until a format is accepted.

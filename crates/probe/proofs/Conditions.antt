@@ -22,7 +22,7 @@ use Rattle.group.specs.declared.Hit.the-variants.{At, Nowhere}
 use Rattle.group.specs.Answers.{foundOf, lookedOf}
 use Rattle.group.specs.Reading.{readGroup}
 use Rattle.group.proofs.Found.{found-whole}
-use Rattle.table.proofs.Count.{length-flat, levels-few}
+use Rattle.insertion.proofs.Count.{length-flat, levels-few}
 use Rattle.probe.specs.Groups.{outside, answerIf, bit, bit16, bit40, bit56, soundness, isSound, hit, finding, Compacts, hasRoom}
 
 module _ (b : List ℕ) where

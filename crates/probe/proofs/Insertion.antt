@@ -22,7 +22,7 @@ use Rattle.group.specs.Held.{Held}
 use Rattle.group.proofs.Holding.{sound-held}
 use Rattle.group.proofs.Members.{every-of}
 use Rattle.group.proofs.Soundness.{sound-encodes}
-use Rattle.table.specs.Ready.{Masks, Ready}
+use Rattle.insertion.specs.Ready.{Masks, Ready}
 use Rattle.probe.specs.Groups.{outside, bit, isSound, recordBy, marks, fitting, hasRoom, insertable, Inserts}
 use Rattle.probe.proofs.Conditions.{size, sound}
 

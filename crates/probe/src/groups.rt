@@ -176,6 +176,6 @@ pub extern "C" fn probe_group_insert(part: &mut [u8], eight: &[u8], mask: &[u8])
         return OUTSIDE;
     }
     let r = record::decode(eight, 0);
-    table::insert(part, r, mask);
+    insertion::insert(part, r, mask);
     group::record_count(part) as u64
 }

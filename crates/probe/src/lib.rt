@@ -21,7 +21,7 @@ pub extern "C" fn probe_sort(batch: &[u32], pages: &mut [u32], sources: &mut [u3
     ensures { λ _. ⌜ now (pages .exit) ≡ store (now (pages .entry)) 0 (logicals (sorted (now (batch .entry)))) ⌝ }
     ensures { λ _. ⌜ now (sources .exit) ≡ store (now (sources .entry)) 0 (sourcesOf (sorted (now (batch .entry)))) ⌝ }
 {
-    batch::sort::sort_batch(batch, pages, sources) as u64
+    sorting::sort::sort_batch(batch, pages, sources) as u64
 }
 
 // The records of a sorted batch: how many there are; eight bytes of each in out, how many pages each takes in taken.

@@ -63,7 +63,7 @@ fn in_c() {
 /// In the order of their numbers.
 #[test]
 fn in_rattle() {
-    let rattle = lines_of("crates/device/src/answers.rt", "pub enum Refusal {");
+    let rattle = lines_of("crates/state/src/answers.rt", "pub enum Refusal {");
     let names = refusals().into_iter().map(|(name, _)| name);
     assert_eq!(rattle, Vec::from_iter(names));
 }

@@ -205,7 +205,7 @@ fn the_search_for_names_finds_what_is_there_and_nothing_else() {
     assert!(!defines("sink s [] = (s ∷ []) ∷ []", "sink"));
     assert!(!defines("pub insert-met : (r : Record)", "insert"));
     let crates = root().join("crates");
-    assert!(has_function(&crates.join("device/src"), "lookup"));
-    assert!(!has_function(&crates.join("device/src"), "look"));
+    assert!(has_function(&crates.join("lookup/src"), "lookup"));
+    assert!(!has_function(&crates.join("lookup/src"), "look"));
     assert!(!has_function(&crates.join("nowhere/src"), "lookup"));
 }

@@ -1,7 +1,7 @@
 -- The answer, packed; what is left in `out` is the listing's own.
 use mathlib.Core.Path.{ap, _∙_}
 use borrow.Author.Needs.{needs}
-use Rattle.device.specs.Listing.{Outcome}
+use Rattle.lookup.specs.Listing.{Outcome}
 use Rattle.export.specs.Packing.{packedListing}
 use Rattle.export.proofs.hedjosur_list.Statement.{statement}
 use Rattle.export.proofs.hedjosur_list.Tie as tie

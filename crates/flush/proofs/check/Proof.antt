@@ -11,10 +11,10 @@ use Rattle.model.specs.Device.{Device, spareLength}
 use Rattle.model.specs.Sound.{isEmpty, soundState}
 use Rattle.calls.specs.History.{lend}
 use Rattle.spare.specs.Read.{numbersOf}
-use Rattle.device.specs.Reading.{readState}
-use Rattle.device.specs.Shaped.{Shaped}
-use Rattle.device.specs.Answers.{refusalOf}
-use Rattle.device.proofs.Refusing.{answered-device, answered-refusal}
+use Rattle.state.specs.Reading.{readState}
+use Rattle.state.specs.Shaped.{Shaped}
+use Rattle.state.specs.Answers.{refusalOf}
+use Rattle.state.proofs.Refusing.{answered-device, answered-refusal}
 use Rattle.flush.specs.Clearing.{Clears}
 use Rattle.flush.proofs.Checking.{not-open, spare-wrong, plan-wrong, unsound, size-wrong, page-outside, too-few-free, none-applies}
 use Rattle.flush.proofs.check.Statement.{statement}

@@ -10,10 +10,10 @@ use Rattle.calls.specs.Refusals.{firstRefusal}
 use Rattle.calls.specs.Flush.{flushChecks}
 use Rattle.calls.specs.History.{lend}
 use Rattle.spare.specs.Read.{numbersOf}
-use Rattle.device.specs.Reading.{readState}
-use Rattle.device.specs.Shaped.{Shaped}
-use Rattle.device.specs.Answers.{flushAnswer}
-use Rattle.flush.proofs.Written.{room}
+use Rattle.state.specs.Reading.{readState}
+use Rattle.state.specs.Shaped.{Shaped}
+use Rattle.state.specs.Answers.{flushAnswer}
+use Rattle.writing.proofs.Written.{room}
 use Rattle.flush.proofs.Flushing.{cleared-device, cleared-refusal, Passed, flush-refused, passed, lowest-inside, flush-written}
 use Rattle.flush.proofs.flush.Statement.{statement}
 use Rattle.flush.proofs.flush.Tie as tie

@@ -7,7 +7,7 @@ use lib.ListN.{length}
 use lib.Seq.{length-take-le}
 use Rattle.model.proofs.Limits.{Limits, limits}
 use Rattle.spare.specs.Read.{numbersOf}
-use Rattle.device.proofs.Within.{room-small}
+use Rattle.state.proofs.Within.{room-small}
 use Rattle.flush.proofs.Sorted.{below-more, sorted-fits, Front, sorted-front, front-taken}
 use Rattle.flush.proofs.write_batch.Statement.{statement}
 use Rattle.flush.proofs.write_batch.Tie as tie

@@ -8,9 +8,9 @@ use lib.ListN.{length}
 use borrow.Author.Needs.{needs}
 use Rattle.model.specs.Lists.{all}
 use Rattle.model.proofs.Limits.{limits}
-use Rattle.device.specs.Reading.{readState}
-use Rattle.device.specs.Answers.{collectAnswer}
-use Rattle.device.proofs.Shaping.{length-counts}
+use Rattle.state.specs.Reading.{readState}
+use Rattle.state.specs.Answers.{collectAnswer}
+use Rattle.state.proofs.Shaping.{length-counts}
 use Rattle.collection.proofs.Taken.{blocks-in, blocks-few}
 use Rattle.collection.proofs.Moved.{write-ready}
 use Rattle.collection.proofs.Clearing.{written-shape, collection-left, collection-answer}

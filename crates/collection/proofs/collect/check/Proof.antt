@@ -6,10 +6,10 @@ use lib.ListN.{length}
 use Rattle.model.specs.Device.{Device, spareLength}
 use Rattle.calls.specs.History.{lend}
 use Rattle.spare.specs.Read.{numbersOf}
-use Rattle.device.specs.Reading.{readState}
-use Rattle.device.specs.Shaped.{Shaped}
-use Rattle.device.specs.Answers.{refusalOf}
-use Rattle.device.proofs.Refusing.{answered-device, answered-refusal}
+use Rattle.state.specs.Reading.{readState}
+use Rattle.state.specs.Shaped.{Shaped}
+use Rattle.state.specs.Answers.{refusalOf}
+use Rattle.state.proofs.Refusing.{answered-device, answered-refusal}
 use Rattle.collection.specs.Admitting.{Admits}
 use Rattle.collection.proofs.Ending.{closed, bad-spare, bad-plan, bad-erased, unsound}
 use Rattle.collection.proofs.collect.check.Statement.{statement}

@@ -13,10 +13,10 @@ use Rattle.calls.specs.Choice.{blocksOf, noGain}
 use Rattle.calls.specs.Collection.{victims, moves}
 use Rattle.calls.specs.History.{lend}
 use Rattle.spare.specs.Read.{numbersOf}
-use Rattle.device.specs.Reading.{readState}
-use Rattle.device.specs.Shaped.{Passed}
-use Rattle.device.specs.Answers.{refusalOf, collectAnswer}
-use Rattle.device.proofs.Shaping.{length-counts}
+use Rattle.state.specs.Reading.{readState}
+use Rattle.state.specs.Shaped.{Passed}
+use Rattle.state.specs.Answers.{refusalOf, collectAnswer}
+use Rattle.state.proofs.Shaping.{length-counts}
 use Rattle.collection.proofs.Chosen.{blocks-length}
 use Rattle.collection.proofs.Gathering.{front}
 use Rattle.collection.proofs.Taken.{blocks-few}

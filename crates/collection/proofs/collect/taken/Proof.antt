@@ -7,8 +7,8 @@ use lib.Seq.{length-take-le}
 use borrow.Author.Needs.{needs}
 use Rattle.model.specs.Device.{Device}
 use Rattle.model.proofs.Limits.{limits}
-use Rattle.device.specs.Reading.{readState}
-use Rattle.device.proofs.Shaping.{length-counts}
+use Rattle.state.specs.Reading.{readState}
+use Rattle.state.proofs.Shaping.{length-counts}
 use Rattle.collection.specs.Tally.{tallyOf}
 use Rattle.collection.proofs.Judging.{length-tally}
 use Rattle.collection.proofs.Gathering.{front}

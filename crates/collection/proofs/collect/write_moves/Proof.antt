@@ -2,7 +2,7 @@
 use native.Mathlib.Omega.{arith}
 use Prim.Native.Nat.{_<_}
 use borrow.Author.Needs.{needs}
-use Rattle.device.proofs.Shaping.{length-counts}
+use Rattle.state.proofs.Shaping.{length-counts}
 use Rattle.collection.proofs.Judging.{block-fits}
 use Rattle.collection.proofs.Moved.{write-ready, none-moved, some-moved, lowest-in}
 use Rattle.collection.proofs.collect.write_moves.Statement.{statement}

@@ -5,10 +5,10 @@ use Prim.Native.Nat.{_-_, _≤_}
 use lib.Dec.{ltb}
 use lib.ListN.{length, drop}
 use borrow.Author.Tests.{ltb-true}
-use Rattle.batch.proofs.SortSpread.{all-getD}
+use Rattle.sorting.proofs.SortSpread.{all-getD}
 use Rattle.spare.specs.Read.{numbersOf}
-use Rattle.device.specs.Reading.{readState}
-use Rattle.device.specs.Shaped.{Shaped}
+use Rattle.state.specs.Reading.{readState}
+use Rattle.state.specs.Shaped.{Shaped}
 use Rattle.collection.proofs.Clearing.{Clearing, erased-shape, cleared-next, cleared-end}
 use Rattle.collection.proofs.erasing.erase_blocks.Statement.{statement}
 use Rattle.collection.proofs.erasing.erase_blocks.Tie as tie

@@ -8,10 +8,10 @@ use Rattle.model.specs.Lists.{store}
 use Rattle.model.specs.Spare.{middle}
 use Rattle.model.proofs.Limits.{limits}
 use Rattle.calls.specs.Collection.{usedBlock}
-use Rattle.batch.proofs.SortStores.{stored-on, stored-all}
-use Rattle.batch.proofs.SortSpread.{counted, uncounted}
+use Rattle.sorting.proofs.SortStores.{stored-on, stored-all}
+use Rattle.sorting.proofs.SortSpread.{counted, uncounted}
 use Rattle.spare.specs.Read.{numbersOf}
-use Rattle.device.specs.Reading.{readState}
+use Rattle.state.specs.Reading.{readState}
 use Rattle.collection.proofs.Judging.{validFrom, in-device, page-fits, block-fits, valid-first, valid-end, valid-next, valid-passed}
 use Rattle.collection.proofs.Gathering.{named-next, named-none, room-left}
 use Rattle.collection.proofs.moving.gather_block.Statement.{statement}

@@ -4,8 +4,8 @@ use mathlib.Core.Path.{ap, _∙_}
 use lib.Dec.{ltb}
 use borrow.Author.Needs.{needs}
 use Rattle.model.specs.Lists.{all}
-use Rattle.device.specs.Reading.{readState}
-use Rattle.device.proofs.Shaping.{length-counts}
+use Rattle.state.specs.Reading.{readState}
+use Rattle.state.proofs.Shaping.{length-counts}
 use Rattle.collection.proofs.Taken.{blocks-in}
 use Rattle.collection.proofs.Moved.{gathered-few, sort-ready, sort-done}
 use Rattle.collection.proofs.moving.moves.Statement.{statement}

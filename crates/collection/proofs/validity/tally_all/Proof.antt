@@ -4,10 +4,10 @@ use mathlib.Core.Path.{_≡_, refl}
 use Prim.Native.Nat.{_-_, _≤_}
 use lib.ListN.{length, length-set}
 use Rattle.model.specs.Lists.{store}
-use Rattle.batch.proofs.SortStores.{stored-on, stored-all}
-use Rattle.device.specs.Reading.{readState}
-use Rattle.device.proofs.Places.{small}
-use Rattle.device.proofs.Shaping.{length-counts}
+use Rattle.sorting.proofs.SortStores.{stored-on, stored-all}
+use Rattle.state.specs.Reading.{readState}
+use Rattle.state.proofs.Places.{small}
+use Rattle.state.proofs.Shaping.{length-counts}
 use Rattle.collection.specs.Tally.{tallyOf}
 use Rattle.collection.proofs.Judging.{tallies, tallies-next, tallies-end}
 use Rattle.collection.proofs.validity.tally_all.Statement.{statement}

@@ -2,7 +2,7 @@
 use native.Mathlib.Omega.{arith}
 use mathlib.Core.Path.{sym, ap, _∙_}
 use borrow.Author.Needs.{needs}
-use Rattle.device.specs.Answers.{soughtOf}
+use Rattle.state.specs.Answers.{soughtOf}
 use Rattle.collection.proofs.Judging.{group-fine, too-high, not-given, given-is}
 use Rattle.collection.proofs.validity.valid.Statement.{statement}
 use Rattle.collection.proofs.validity.valid.Tie as tie

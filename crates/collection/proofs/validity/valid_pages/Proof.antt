@@ -6,9 +6,9 @@ use mathlib.Core.List.{List}
 use Prim.Native.Nat.{ℕ, _+_, _-_, _≤_}
 use lib.ListN.{length}
 use Rattle.model.proofs.Limits.{limits}
-use Rattle.batch.proofs.SortSpread.{counted, uncounted}
+use Rattle.sorting.proofs.SortSpread.{counted, uncounted}
 use Rattle.spare.specs.Read.{numbersOf}
-use Rattle.device.specs.Reading.{readState}
+use Rattle.state.specs.Reading.{readState}
 use Rattle.collection.proofs.Judging.{validFrom, in-device, page-fits, block-fits, valid-first, valid-end, valid-next, valid-passed}
 use Rattle.collection.proofs.validity.valid_pages.Statement.{statement}
 use Rattle.collection.proofs.validity.valid_pages.Tie as tie

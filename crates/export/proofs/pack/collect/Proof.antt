@@ -3,8 +3,8 @@ use mathlib.Core.Path.{sym, ap, subst, _∙_}
 use Prim.Native.Nat.{_≤_, _<_}
 use native.Mathlib.Omega.{arith}
 use borrow.Author.Needs.{needs}
-use Rattle.device.specs.declared.answers.Collected.{Collected}
-use Rattle.device.specs.Answers.{collectAnswer}
+use Rattle.state.specs.declared.answers.Collected.{Collected}
+use Rattle.state.specs.Answers.{collectAnswer}
 use Rattle.export.specs.Packing.{bit20, packed, Fitting}
 use Rattle.export.proofs.pack.collect.Statement.{statement}
 use Rattle.export.proofs.pack.collect.Tie as tie

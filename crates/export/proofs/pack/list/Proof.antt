@@ -1,8 +1,8 @@
 -- Each arm by the number of its answer.
 use mathlib.Core.Path.{sym, ap, _∙_}
 use borrow.Author.Needs.{needs}
-use Rattle.device.specs.declared.answers.Listed.{Listed}
-use Rattle.device.specs.Listing.{listAnswer}
+use Rattle.state.specs.declared.answers.Listed.{Listed}
+use Rattle.lookup.specs.Listing.{listAnswer}
 use Rattle.export.specs.Packing.{packed, packedListing}
 use Rattle.export.proofs.pack.list.Statement.{statement}
 use Rattle.export.proofs.pack.list.Tie as tie

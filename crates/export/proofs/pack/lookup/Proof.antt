@@ -3,8 +3,8 @@ use mathlib.Core.Path.{sym, ap, subst, _∙_}
 use Prim.Native.Nat.{_≤_, _<_}
 use native.Mathlib.Omega.{arith}
 use borrow.Author.Needs.{needs}
-use Rattle.device.specs.declared.answers.Lookup.{Lookup}
-use Rattle.device.specs.Answers.{lookupAnswer}
+use Rattle.state.specs.declared.answers.Lookup.{Lookup}
+use Rattle.state.specs.Answers.{lookupAnswer}
 use Rattle.export.specs.Packing.{bit20, packed, Fitting}
 use Rattle.export.proofs.pack.lookup.Statement.{statement}
 use Rattle.export.proofs.pack.lookup.Tie as tie

@@ -3,7 +3,7 @@ use mathlib.Core.Path.{ap}
 use Prim.Native.Nat.{ℕ, _*_}
 use native.Mathlib.Omega.{arith}
 use borrow.Author.Needs.{needs}
-use Rattle.device.specs.Answers.{refusalOf}
+use Rattle.state.specs.Answers.{refusalOf}
 use Rattle.export.specs.Packing.{packed, bit60}
 use Rattle.export.proofs.Bounds.{refusal-small}
 use Rattle.export.proofs.pack.refused.Statement.{statement}

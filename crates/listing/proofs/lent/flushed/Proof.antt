@@ -1,7 +1,7 @@
 -- A refusal has its number, any other answer 0.
 use mathlib.Core.Path.{sym, ap, _∙_}
 use Rattle.calls.specs.Outcome.{number}
-use Rattle.device.specs.Answers.{flushAnswer}
+use Rattle.state.specs.Answers.{flushAnswer}
 use borrow.Author.Needs.{needs}
 use Rattle.listing.proofs.lent.flushed.Statement.{statement}
 use Rattle.listing.proofs.lent.flushed.Tie as tie

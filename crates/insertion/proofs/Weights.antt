@@ -1,0 +1,136 @@
+-- An offset's owner as the sum of what each record adds: who owns it is told by the sum, and what a change of one record does to it. Assumes nothing.
+use mathlib.Core.Path.{_≡_, refl, sym, _∙_, ap}
+use mathlib.Core.List.{List, [], _∷_}
+use mathlib.Core.Bool.{true≢false, Bool, true, false, not, _&&_}
+use Prim.Native.Nat.{ℕ, suc, _+_, _≤_}
+use native.Mathlib.Omega.{arith}
+use lib.Dec.{eqb, leb}
+use borrow.Author.Tests.{eqb-true, eq-eqb, ne-eqb}
+use Rattle.model.specs.Lists.{all, elem, ascending}
+use Rattle.model.specs.Record.{Record, Kind, single, accurate, approximate, kind, isApproximate}
+use Rattle.model.specs.Sound.{soundAs, soundRecord, ownsItsEnds}
+use Rattle.model.specs.Totals.{total, indicator, owns}
+use Rattle.model.proofs.Bools.{and-l, and-r, all-head, all-tail}
+use Rattle.model.proofs.Lists.{elem-here}
+use Rattle.model.proofs.SoundRecord.{record-parts, sound-owner}
+use Rattle.group.specs.Held.{ownerAmong}
+use Rattle.slots.specs.Owners.{either, disowned, handedOver, takenBy, leftTo}
+use Rattle.insertion.specs.Shown.{weight}
+
+-- Whether r owns o, with what it adds.
+pub data Weighs (o : ℕ) (r : Record) : Type 0 where
+  yes : elem o (r .owned) ≡ true → weight o r ≡ suc (r .start) → owns o r ≡ 1 → Weighs o r
+  no : elem o (r .owned) ≡ false → weight o r ≡ 0 → owns o r ≡ 0 → Weighs o r
+
+pub weighs : (o : ℕ) (r : Record) → Weighs o r
+unfolding weight owns
+weighs o r = go (elem o (r .owned)) refl
+  where
+    go : (t : Bool) → elem o (r .owned) ≡ t → Weighs o r
+    go true e = yes e (rw (e, weight) refl) (ap indicator e)
+    go false e = no e (rw (e, weight) refl) (ap indicator e)
+
+-- an offset that no record owns has owner 0
+pub unowned : (o : ℕ) (l : List Record) → total (owns o) l ≡ 0 → total (weight o) l ≡ 0
+unfolding total
+unowned o [] h = refl
+unowned o (r ∷ l) h = go (weighs o r) (λ k. unowned o l k)
+  where
+    go : Weighs o r → (total (owns o) l ≡ 0 → total (weight o) l ≡ 0) → weight o r + total (weight o) l ≡ 0
+    go (yes e w n) ih = absurd (omega arith)
+    go (no e w n) ih = omega (arith, ih (omega arith))
+
+-- the first owner's start plus 1 is the sum
+pub among-total : (o : ℕ) (l : List Record) → total (owns o) l ≤ 1 → ownerAmong o l ≡ total (weight o) l
+unfolding total ownerAmong
+among-total o [] h = refl
+among-total o (r ∷ l) h = go (weighs o r) (λ k. among-total o l k)
+  where
+    go : Weighs o r → (total (owns o) l ≤ 1 → ownerAmong o l ≡ total (weight o) l) → ownerAmong o (r ∷ l) ≡ weight o r + total (weight o) l
+    go (yes e w n) ih = let z = unowned o l (omega arith) in rw (e, ownerAmong) (omega arith)
+    go (no e w n) ih = rw (e, ownerAmong) (omega (arith, ih (omega arith)))
+
+-- a sound approximate record owns its start
+pub owns-start : (r : Record) → soundRecord 256 0 r ≡ true → isApproximate (kind r) ≡ true → owns (r .start) r ≡ 1
+unfolding soundAs isApproximate ownsItsEnds owns
+owns-start r h a = go (kind r) refl a (record-parts 256 0 r h .shape)
+  where
+    here : (l : List ℕ) → ownsItsEnds r l ≡ true → elem (r .start) l ≡ true
+    here [] e = absurd (true≢false (sym e))
+    here (x ∷ l) e =
+        let p : (ascending (x ∷ l) && eqb x (r .start)) ≡ true = and-l (ascending (x ∷ l) && eqb x (r .start)) _ e in
+        let q : x ≡ r .start = eqb-true _ _ (and-r (ascending (x ∷ l)) _ p) in
+        rw (sym q) (elem-here x l)
+
+    go : (q : Kind) → kind r ≡ q → isApproximate q ≡ true → soundAs q r ≡ true → owns (r .start) r ≡ 1
+    go single e i s = absurd (true≢false (sym i))
+    go (accurate d) e i s = absurd (true≢false (sym i))
+    go (approximate c) e i s = ap indicator (here (r .owned) (and-r (leb c 256) _ s))
+
+-- no sum names a start that no record owns
+unnamed : (o x : ℕ) (l : List Record) → all (soundRecord 256 0) l ≡ true → total (owns o) l ≤ 1 → total (owns x) l ≡ 0 → total (weight o) l ≡ suc x → ⊥
+unfolding total
+unnamed o x [] a h z e = omega arith
+unnamed o x (r ∷ l) a h z e = go (weighs o r) (λ i j k. unnamed o x l (all-tail (soundRecord 256 0) r l a) i j k)
+  where
+    sound : soundRecord 256 0 r ≡ true
+    sound = all-head (soundRecord 256 0) r l a
+
+    go : Weighs o r → (total (owns o) l ≤ 1 → total (owns x) l ≡ 0 → total (weight o) l ≡ suc x → ⊥) → ⊥
+    go (yes i w n) ih =
+        let rest = unowned o l (omega arith) in
+        let q : r .start ≡ x = omega arith in
+        let own : owns x r ≡ 1 = ap (λ (y : ℕ). owns y r) (sym q) ∙ owns-start r sound (sound-owner 256 0 r o sound i) in
+        omega arith
+    go (no i w n) ih = ih (omega arith) (omega arith) (omega arith)
+
+-- an approximate record among sound ones whose offsets have one owner each
+module _ (v : Record) (l : List Record) (sound : soundRecord 256 0 v ≡ true) (others : all (soundRecord 256 0) l ≡ true)
+    (once : (o : ℕ) → owns o v + total (owns o) l ≤ 1) (approximately : isApproximate (kind v) ≡ true) where
+  -- an offset's owner names its start where it owns the offset
+  pub names-owned : (o : ℕ) → eqb (weight o v + total (weight o) l) (suc (v .start)) ≡ elem o (v .owned)
+  names-owned o = go (weighs o v)
+    where
+      go : Weighs o v → eqb (weight o v + total (weight o) l) (suc (v .start)) ≡ elem o (v .owned)
+      go (yes i w n) =
+          let z = unowned o l (omega (arith, once o)) in
+          let q : weight o v + total (weight o) l ≡ suc (v .start) = omega arith in
+          eq-eqb _ _ q ∙ sym i
+      go (no i w n) =
+          let own = owns-start v sound approximately in
+          let differ : weight o v + total (weight o) l ≡ suc (v .start) → ⊥ = λ e. unnamed o (v .start) l others (omega (arith, once o)) (omega (arith, once (v .start))) (omega arith) in
+          ne-eqb _ _ differ ∙ sym i
+
+  pub left-owned : (o : ℕ) (taken : Bool) → leftTo (v .start) taken (weight o v + total (weight o) l) ≡ (elem o (v .owned) && not taken)
+  unfolding leftTo
+  left-owned o taken = ap (λ (t : Bool). t && not taken) (names-owned o)
+
+  -- what it owned goes to what is left of it
+  pub handed-left : (o : ℕ) (u : Record) → (elem o (u .owned) ≡ true → elem o (v .owned) ≡ true)
+      → handedOver (v .start) (elem o (u .owned)) (u .start) (weight o v + total (weight o) l) ≡ weight o u + total (weight o) l
+  unfolding handedOver either
+  handed-left o u sub = ap (λ (t : Bool). either t (either (elem o (u .owned)) (suc (u .start)) 0) (weight o v + total (weight o) l)) (names-owned o) ∙ go (weighs o v) (weighs o u)
+    where
+      go : Weighs o v → Weighs o u → either (elem o (v .owned)) (either (elem o (u .owned)) (suc (u .start)) 0) (weight o v + total (weight o) l) ≡ weight o u + total (weight o) l
+      go (yes i w n) (yes j x k) = let z = unowned o l (omega (arith, once o)) in rw (i, j, either) (omega arith)
+      go (yes i w n) (no j x k) = let z = unowned o l (omega (arith, once o)) in rw (i, j, either) (omega arith)
+      go (no i w n) (yes j x k) = absurd (true≢false (sym (sub j) ∙ i))
+      go (no i w n) (no j x k) = rw (i, either) (omega arith)
+
+  -- what it owned goes to nobody
+  pub disowned-left : (o : ℕ) → disowned (v .start) (weight o v + total (weight o) l) ≡ total (weight o) l
+  unfolding disowned either
+  disowned-left o = ap (λ (t : Bool). either t 0 (weight o v + total (weight o) l)) (names-owned o) ∙ go (weighs o v)
+    where
+      go : Weighs o v → either (elem o (v .owned)) 0 (weight o v + total (weight o) l) ≡ total (weight o) l
+      go (yes i w n) = let z = unowned o l (omega (arith, once o)) in rw (i, either) (omega arith)
+      go (no i w n) = rw (i, either) (omega arith)
+
+-- a record that owns offsets nobody owned
+pub owned-more : (o : ℕ) (v : Record) (l : List Record) → owns o v + total (owns o) l ≤ 1 → takenBy (v .start) (elem o (v .owned)) (total (weight o) l) ≡ weight o v + total (weight o) l
+unfolding takenBy either
+owned-more o v l h = go (weighs o v)
+  where
+    go : Weighs o v → either (elem o (v .owned)) (suc (v .start)) (total (weight o) l) ≡ weight o v + total (weight o) l
+    go (yes i w n) = let z = unowned o l (omega arith) in rw (i, either) (omega arith)
+    go (no i w n) = rw (i, either) (omega arith)

@@ -1,0 +1,4 @@
+pub mod Looking
+pub mod Comparing
+pub mod Agreeing
+pub mod Listing

@@ -1,0 +1,83 @@
+// Agreement of two states, each with its spare area.
+use crate::alike::compare;
+use crate::alike::is_named;
+use spare::Numbers;
+use state::answers::Agreed;
+use state::answers::Refusal;
+use state::groups::sound;
+use state::opening::Opened;
+use state::opening::check_state;
+use state::seek::seek;
+ghost use mathlib.Core.Path.{_≡_};
+ghost use mathlib.Core.List.{List, []};
+ghost use Prim.Native.Nat.{ℕ};
+ghost use Rattle.calls.specs.Agreement.{allNamed};
+ghost use Rattle.calls.specs.History.{agreeCall};
+ghost use Rattle.spare.specs.Read.{numbersOf};
+ghost use Rattle.state.specs.Reading.{readState};
+ghost use Rattle.state.specs.Shaped.{Passed};
+ghost use Rattle.state.specs.Answers.{agreeAnswer};
+ghost use Rattle.lookup.specs.Agreeing.{Checks};
+ghost use Rattle.state.specs.Ran.{Ran};
+
+// The device numbers of a sound state with its spare area, or the refusal: 1, 2 or 3.
+fn check(state: &[u8], spare: &[u32]) -> Opened
+    ensures { λ r. ⌜ Checks (readState (now (state .entry))) (now (spare .entry)) r ⌝ }
+{
+    let opened = check_state(state);
+    let d = match opened {
+        Opened::Device(d) => d,
+        Opened::Refused(r) => return Opened::Refused(r),
+    };
+    if spare.len() != spare::spare_len(d) {
+        return Opened::Refused(Refusal::BadLength);
+    }
+    if !sound(state, d) {
+        return Opened::Refused(Refusal::NotSound);
+    }
+    Opened::Device(d)
+}
+
+// Whether no lookup of a logical page refuses 7.
+fn all_named(state: &[u8], spare: &[u32], d: Numbers) -> bool
+    requires { ⌜ Passed (numbersOf d) (readState (now state)) (now spare) ⌝ }
+    ensures { λ r. ⌜ r ≡ allNamed (readState (now (state .entry))) (now (spare .entry)) ⌝ }
+{
+    let n = d.n;
+    let mut x = 0;
+    while x < n {
+        let sought = seek(state, spare, d, x);
+        if !is_named(sought) {
+            return false;
+        }
+        x += 1;
+    }
+    true
+}
+
+// Document 01's agreement. It is lent two states with their spare areas, and writes none of them.
+pub fn agree(state_a: &[u8], spare_a: &[u32], state_b: &[u8], spare_b: &[u32]) -> Agreed
+    ensures { λ r. ⌜ ((s spare : List ℕ) → Ran (agreeCall (readState (now («state_a» .entry))) (now («spare_a» .entry)) (readState (now («state_b» .entry))) (now («spare_b» .entry)))
+        s spare (agreeAnswer r) s spare [] []) ⌝ }
+{
+    let first = check(state_a, spare_a);
+    let a = match first {
+        Opened::Device(d) => d,
+        Opened::Refused(r) => return Agreed::Refused(r),
+    };
+    let second = check(state_b, spare_b);
+    let b = match second {
+        Opened::Device(d) => d,
+        Opened::Refused(r) => return Agreed::Refused(r),
+    };
+    if a.n == b.n {
+        return compare(state_a, spare_a, a, state_b, spare_b, b);
+    }
+    if !all_named(state_a, spare_a, a) {
+        return Agreed::Refused(Refusal::NotNamed);
+    }
+    if !all_named(state_b, spare_b, b) {
+        return Agreed::Refused(Refusal::NotNamed);
+    }
+    Agreed::No
+}

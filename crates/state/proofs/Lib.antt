@@ -1,0 +1,11 @@
+pub mod Places
+pub mod Within
+pub mod Head
+pub mod Tables
+pub mod Shaping
+pub mod Writers
+pub mod Scanning
+pub mod Handing
+pub mod Refusing
+pub mod GroupChecks
+pub mod Seeking

@@ -1,0 +1,61 @@
+-- The first of the whole is the first of the rest, until one is found.
+use native.Mathlib.Omega.{arith}
+use mathlib.Core.Path.{_≡_, refl}
+use Prim.Native.Nat.{_-_, _≤_, _<_}
+use lib.ListN.{length}
+use Rattle.model.specs.State.{lowestFree, lowestIn}
+use Rattle.state.specs.Reading.{readState}
+use Rattle.state.proofs.Places.{small}
+use Rattle.state.proofs.Shaping.{length-counts}
+use Rattle.state.proofs.Scanning.{lowestFrom, lowest-here, lowest-on, lowest-end}
+use Rattle.state.proofs.counts.lowest_free.Statement.{statement}
+use Rattle.state.proofs.counts.lowest_free.Tie as tie
+
+abbrev Inv-loop : tie.InvT-loop
+Inv-loop state d m k₀ k = (k ≤ d .m) × (lowestFree (readState state) ≡ lowestFrom (readState state) k)
+
+abbrev μ-loop : tie.MeasureT-loop
+μ-loop state d m k₀ k = d .m - k
+
+-- block k is one of the blocks; in the end all are passed
+taken : (c : tie.In-loop Inv-loop μ-loop) → c .before .loop .k < length (readState (c .before .before .before .args .state .now) .counts)
+taken c = omega (arith, c .loop-test .taken, length-counts _ _ (c .before .before .before .pre))
+
+left : (c : tie.After-loop Inv-loop μ-loop) → length (readState (c .before .before .before .args .state .now) .counts) ≤ c .before .loop .k
+left c = omega (arith, c .loop-test .left, length-counts _ _ (c .before .before .before .pre))
+
+loop-holds : tie.Need-loop-holds Inv-loop μ-loop
+unfolding lowestIn lowestFrom
+loop-holds c = (omega arith, refl)
+
+count-requires : tie.Need-count-requires Inv-loop μ-loop
+count-requires c κs = (c .before .before .before .pre, c .loop-test .taken)
+
+returns : tie.Need-returns Inv-loop μ-loop
+returns c = lowest-here _ _ _ (c .before .count .ensures .0) (c .before .before .before .loop .inv .1) (taken (c .before .before)) (c .if1 .taken)
+
+add-k : tie.Need-add-k Inv-loop μ-loop
+add-k c = omega (arith, small _ (c .before .before .before .before .before .pre .limits) .blocks)
+
+loop-less : tie.Need-loop-less Inv-loop μ-loop
+loop-less c = omega arith
+
+loop-again : tie.Need-loop-again Inv-loop μ-loop
+loop-again c = (omega arith, lowest-on _ _ _ (c .before .count .ensures .0) (c .before .before .before .loop .inv .1) (taken (c .before .before)) (c .if1 .left))
+
+returns-2 : tie.Need-returns-2 Inv-loop μ-loop
+returns-2 c = lowest-end _ _ (c .before .loop .inv .1) (left c)
+
+pub lowest-free-spec : {M : Type 1} → statement M
+lowest-free-spec =
+    tie.close
+    (tie.spec
+    Inv-loop
+    μ-loop
+    loop-holds
+    count-requires
+    returns
+    add-k
+    loop-less
+    loop-again
+    returns-2)

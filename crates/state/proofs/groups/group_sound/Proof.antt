@@ -1,0 +1,46 @@
+-- The part is group k.
+use native.Mathlib.Omega.{arith}
+use mathlib.Core.Path.{ap, _∙_}
+use Rattle.model.specs.Sound.{soundGroup}
+use Rattle.state.proofs.Places.{small}
+use Rattle.state.proofs.Handing.{Lent, lent}
+use borrow.Author.Needs.{needs}
+use Rattle.state.proofs.groups.group_sound.Statement.{statement}
+use Rattle.state.proofs.groups.group_sound.Tie as tie
+
+group-place-requires : tie.Need-group-place-requires
+group-place-requires c κs = search needs
+
+group-end-requires : tie.Need-group-end-requires
+group-end-requires c κs = search needs
+
+sub-sound : tie.Need-sub-sound
+sub-sound c = search needs
+
+part-sound-start : tie.Need-part-sound-start
+part-sound-start c = search needs
+
+-- the part is group k's
+part : (c : tie.After-group-end) → Lent (c .before .before .before .args .state .now) (c .before .before .before .args .k) (c .before .group-place .result) (c .group-end .result)
+part c = lent _ _ (c .before .before .before .pre .0) _ _ _ (c .before .before .before .pre .1) (c .before .group-place .ensures) (c .group-end .ensures)
+
+part-sound-end : tie.Need-part-sound-end
+part-sound-end c = omega (arith, part c .inside)
+
+sound-requires : tie.Need-sound-requires
+sound-requires c κs = (part (c .before) .size, omega (arith, c .before .before .before .before .pre .1, small _ (c .before .before .before .before .pre .0 .limits) .groups))
+
+returns : tie.Need-returns
+returns c = c .sound .ensures ∙ ap (soundGroup _ _) (part (c .before .before) .group)
+
+pub group-sound-spec : {M : Type 1} → statement M
+group-sound-spec =
+    tie.close
+    (tie.spec
+    group-place-requires
+    group-end-requires
+    sub-sound
+    part-sound-start
+    part-sound-end
+    sound-requires
+    returns)

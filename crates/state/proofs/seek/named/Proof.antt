@@ -1,0 +1,62 @@
+-- The predicted page exists or not, and its entries name one or nobody.
+use native.Mathlib.Omega.{arith}
+use mathlib.Core.Path.{sym, ap, _∙_}
+use mathlib.Core.List.{[]}
+use Rattle.model.specs.Device.{pages}
+use Rattle.spare.specs.Read.{numbersOf, namedOf}
+use Rattle.record.specs.Read.{pageOf}
+use Rattle.state.specs.Answers.{soughtOf}
+use Rattle.state.proofs.Places.{pages-small}
+use Rattle.state.proofs.Seeking.{no-page, page-exists, page-named, page-unnamed}
+use borrow.Author.Needs.{needs}
+use Rattle.state.proofs.seek.named.Statement.{statement}
+use Rattle.state.proofs.seek.named.Tie as tie
+
+mul-pages : tie.Need-mul-pages
+mul-pages c = omega (arith, pages-small (numbersOf (c .before .before .args .d)) (c .before .before .pre .0))
+
+page-requires : tie.Need-page-requires
+page-requires c κs = search needs
+
+enum-known-predicted : tie.Need-enum-known-predicted
+enum-known-predicted c = search needs
+
+enum-told : tie.Need-enum-told
+enum-told c = search needs
+
+returns : tie.Need-returns
+unfolding soughtOf pages pageOf
+returns c = λ L. no-page _ _ _ _ _ (sym (ap pageOf (c .enum-told .given .1)) ∙ c .before .before .page .ensures L)
+
+page-named-requires : tie.Need-page-named-requires
+unfolding pages pageOf
+page-named-requires c κs = (c .before .before .before .before .before .before .pre .0, c .before .before .before .before .before .before .pre .1, page-exists (numbersOf (c .before .before .before .before .before .before .args .d)) (c .before .before .before .before .before .before .args .spare .now) (c .before .before .before .before .before .before .args .page) (c .before .before .before .before .before .before .args .n) _ _ (sym (ap pageOf (c .before .predicted .given .1)) ∙ c .before .before .before .page .ensures []))
+
+enum-known-p : tie.Need-enum-known-p
+enum-known-p c = search needs
+
+enum-told-2 : tie.Need-enum-told-2
+enum-told-2 c = search needs
+
+returns-2 : tie.Need-returns-2
+unfolding soughtOf pages pageOf namedOf
+returns-2 c = λ L. page-unnamed _ _ _ _ _ _ (sym (ap pageOf (c .before .before .before .before .predicted .given .1)) ∙ c .before .before .before .before .before .before .page .ensures L) (sym (ap namedOf (c .enum-told2 .given .1)) ∙ c .before .before .page-named .ensures)
+
+returns-3 : tie.Need-returns-3
+unfolding soughtOf pages pageOf namedOf
+returns-3 c = λ L. page-named _ _ _ _ _ _ _ (sym (ap pageOf (c .before .before .before .before .before .predicted .given .1)) ∙ c .before .before .before .before .before .before .before .page .ensures L) (sym (ap namedOf (c .before .p .given .1)) ∙ c .before .before .before .page-named .ensures)
+
+pub named-spec : {M : Type 1} → statement M
+named-spec =
+    tie.close
+    (tie.spec
+    mul-pages
+    page-requires
+    enum-known-predicted
+    enum-told
+    returns
+    page-named-requires
+    enum-known-p
+    enum-told-2
+    returns-2
+    returns-3)

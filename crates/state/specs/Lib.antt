@@ -1,0 +1,7 @@
+pub mod Reading
+pub mod Formatting
+pub mod Outside
+pub mod Ran
+pub mod Shaped
+pub mod Answers
+pub mod Opening

@@ -1,0 +1,4 @@
+pub mod Blank
+pub mod Erasing
+pub mod Formatting
+pub mod Compacting

@@ -1,0 +1,55 @@
+-- The part is group k; the law of a sound group's part compacted, and the bytes outside the part stay.
+use native.Mathlib.Omega.{arith}
+use Rattle.state.proofs.Handing.{Lent, lent, part-outside}
+use Rattle.upkeep.proofs.Compacting.{part-tidy, part-compacted, records-left}
+use borrow.Author.Needs.{needs}
+use Rattle.upkeep.proofs.compact.compact_group.Statement.{statement}
+use Rattle.upkeep.proofs.compact.compact_group.Tie as tie
+
+group-place-requires : tie.Need-group-place-requires
+group-place-requires c κs = search needs
+
+group-end-requires : tie.Need-group-end-requires
+group-end-requires c κs = search needs
+
+sub-compact : tie.Need-sub-compact
+sub-compact c = search needs
+
+part-compact-start : tie.Need-part-compact-start
+part-compact-start c = search needs
+
+-- the part is group k's
+part : (c : tie.After-group-end) → Lent (c .before .before .before .args .state .now) (c .before .before .before .args .k) (c .before .group-place .result) (c .group-end .result)
+part c = lent _ _ (c .before .before .before .pre .0) _ _ _ (c .before .before .before .pre .1) (c .before .group-place .ensures) (c .group-end .ensures)
+
+part-compact-end : tie.Need-part-compact-end
+part-compact-end c = omega (arith, part c .inside)
+
+compact-requires : tie.Need-compact-requires
+compact-requires c κs = part-tidy _ _ (c .before .before .before .before .pre .0) _ _ _ (c .before .before .before .before .pre .1) (c .before .before .group-place .ensures) (c .before .group-end .ensures) (c .before .before .before .before .pre .2)
+
+same-length : tie.Need-same-length
+same-length c = search needs
+
+returns : tie.Need-returns
+returns c =
+    let start = c .before .before .before .before .before in
+    let end = c .before .before .before .before in
+    let pre = c .before .before .before .before .before .before .before .pre in
+    let done = c .before .before .compact .ensures in (
+      (part-compacted _ _ (pre .0) _ _ _ (pre .1) (start .group-place .ensures) (end .group-end .ensures) (pre .2) _ (done .0) (done .2), records-left _ _ (pre .0) _ _ _ (pre .1) (start .group-place .ensures) (end .group-end .ensures) (pre .2) _ _ (done .1)),
+      part-outside _ _ (pre .0) _ _ _ (pre .1) (start .group-place .ensures) (end .group-end .ensures) (c .before .before .compact .last .0) (done .0),
+    )
+
+pub compact-group-spec : {M : Type 1} → statement M
+compact-group-spec =
+    tie.close
+    (tie.spec
+    group-place-requires
+    group-end-requires
+    sub-compact
+    part-compact-start
+    part-compact-end
+    compact-requires
+    same-length
+    returns)

@@ -1,0 +1,23 @@
+-- The head, then zeros: the law of what is read then.
+use native.Mathlib.Omega.{arith}
+use Rattle.spare.specs.Read.{numbersOf}
+use Rattle.state.proofs.Places.{head-inside}
+use Rattle.upkeep.proofs.Blank.{blank-read}
+use borrow.Author.Needs.{needs}
+use Rattle.upkeep.proofs.format.blank.Statement.{statement}
+use Rattle.upkeep.proofs.format.blank.Tie as tie
+
+write-numbers-requires : tie.Need-write-numbers-requires
+write-numbers-requires c κs = omega (arith, head-inside (numbersOf (c .before .before .args .d)), c .before .before .pre .1)
+
+clear-requires : tie.Need-clear-requires
+clear-requires c κs = omega (arith, head-inside (numbersOf (c .before .before .before .before .before .before .args .d)), c .before .before .before .before .before .before .pre .1, c .before .before .before .write-numbers .kept .0)
+
+same-length : tie.Need-same-length
+same-length c = search needs
+
+returns : tie.Need-returns
+returns c = blank-read _ _ _ _ (c .before .before .before .before .before .before .before .before .before .pre .0) (c .before .before .before .before .before .before .before .before .before .pre .1) (c .before .before .before .before .before .before .write-numbers .ensures) (c .before .before .clear .ensures)
+
+pub blank-spec : {M : Type 1} → statement M
+blank-spec = tie.close (tie.spec write-numbers-requires clear-requires same-length returns)

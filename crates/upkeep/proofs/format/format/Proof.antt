@@ -1,0 +1,78 @@
+-- Each refusal as the law of its return says; otherwise the blank device.
+use mathlib.Core.Path.{_≡_, sym, _∙_}
+use mathlib.Core.Bool.{true}
+use borrow.Author.Needs.{needs}
+use borrow.Author.Tests.{not-true, not-false}
+use lib.ListN.{length}
+use Rattle.model.specs.Device.{Device, withinLimits, stateLength, spareLength}
+use Rattle.state.specs.Answers.{refusalOf, formatAnswer}
+use Rattle.upkeep.proofs.Formatting.{format-numbers, format-state, format-spare, format-done}
+use Rattle.upkeep.proofs.format.format.Statement.{statement}
+use Rattle.upkeep.proofs.format.format.Tie as tie
+
+-- the device that is asked for
+abbrev asked : tie.Start → Device
+asked c = record { M = c .args .m; B = c .args .b; N = c .args .n; g = c .args .g }
+
+-- what the tests that were passed give, one after the other
+within : (c : tie.Else1) → withinLimits (asked (c .before .before .before .before)) ≡ true
+within c = sym (c .before .within-limits .ensures) ∙ not-false (c .before .within-limits .result) (c .if1 .left)
+
+long : (c : tie.Else2) → length (c .before .before .before .before .before .before .args .state .now) ≡ stateLength (asked (c .before .before .before .before .before .before))
+long c = c .if2 .left ∙ c .before .state-len .ensures
+
+fits : (c : tie.Else3) → length (c .before .before .before .before .before .before .before .before .args .spare .now) ≡ spareLength (asked (c .before .before .before .before .before .before .before .before))
+fits c = c .if3 .left ∙ c .before .spare-len .ensures
+
+within-limits-requires : tie.Need-within-limits-requires
+within-limits-requires c κs = search needs
+
+returns : tie.Need-returns
+unfolding formatAnswer refusalOf
+returns c = format-numbers _ _ _ (sym (c .before .within-limits .ensures) ∙ not-true (c .before .within-limits .result) (c .if1 .taken))
+
+state-len-requires : tie.Need-state-len-requires
+state-len-requires c κs = within c
+
+returns-2 : tie.Need-returns-2
+unfolding formatAnswer refusalOf
+returns-2 c = format-state _ _ _ (within (c .before .before)) (λ e. c .if2 .taken (e ∙ sym (c .before .state-len .ensures)))
+
+spare-len-requires : tie.Need-spare-len-requires
+spare-len-requires c κs = within (c .before .before)
+
+returns-3 : tie.Need-returns-3
+unfolding formatAnswer refusalOf
+returns-3 c = format-spare _ _ _ (within (c .before .before .before .before)) (long (c .before .before)) (λ e. c .if3 .taken (e ∙ sym (c .before .spare-len .ensures)))
+
+blank-requires : tie.Need-blank-requires
+blank-requires c κs = (within (c .before .before .before .before .before), long (c .before .before .before))
+
+erase-all-requires : tie.Need-erase-all-requires
+erase-all-requires c κs = (within (c .before .before .before .before .before .before .before .before .before), fits (c .before .before .before .before .before))
+
+same-length : tie.Need-same-length
+same-length c = search needs
+
+same-length-2 : tie.Need-same-length-2
+same-length-2 c = search needs
+
+returns-4 : tie.Need-returns-4
+unfolding formatAnswer refusalOf
+returns-4 c = format-done _ _ _ (within (c .before .before .before .before .before .before .before .before .before .before .before .before)) (long (c .before .before .before .before .before .before .before .before .before .before)) (fits (c .before .before .before .before .before .before .before .before)) _ _ (c .before .before .before .before .before .before .blank .ensures) (c .before .before .erase-all .ensures)
+
+pub format-spec : {M : Type 1} → statement M
+format-spec =
+    tie.close
+    (tie.spec
+    within-limits-requires
+    returns
+    state-len-requires
+    returns-2
+    spare-len-requires
+    returns-3
+    blank-requires
+    erase-all-requires
+    same-length
+    same-length-2
+    returns-4)

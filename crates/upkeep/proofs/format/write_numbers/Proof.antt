@@ -1,0 +1,40 @@
+-- Four stores, one behind the other.
+use native.Mathlib.Omega.{arith}
+use Rattle.model.specs.Device.{headLength}
+use Rattle.state.proofs.Head.{head-stores}
+use borrow.Author.Needs.{needs}
+use Rattle.upkeep.proofs.format.write_numbers.Statement.{statement}
+use Rattle.upkeep.proofs.format.write_numbers.Tie as tie
+
+put-u32-requires : tie.Need-put-u32-requires
+unfolding headLength
+put-u32-requires c κs = omega arith
+
+put-u32-requires-2 : tie.Need-put-u32-requires-2
+unfolding headLength
+put-u32-requires-2 c κs = omega arith
+
+put-u32-requires-3 : tie.Need-put-u32-requires-3
+unfolding headLength
+put-u32-requires-3 c κs = omega arith
+
+put-u32-requires-4 : tie.Need-put-u32-requires-4
+unfolding headLength
+put-u32-requires-4 c κs = omega arith
+
+same-length : tie.Need-same-length
+same-length c = search needs
+
+returns : tie.Need-returns
+returns c = head-stores _ _ _ _ _ _ (c .before .before .before .before .before .before .before .before .before .before .before .before .before .before .put-u32 .ensures) (c .before .before .before .before .before .before .before .before .before .before .put-u322 .ensures) (c .before .before .before .before .before .before .put-u323 .ensures) (c .before .before .put-u324 .ensures)
+
+pub write-numbers-spec : {M : Type 1} → statement M
+write-numbers-spec =
+    tie.close
+    (tie.spec
+    put-u32-requires
+    put-u32-requires-2
+    put-u32-requires-3
+    put-u32-requires-4
+    same-length
+    returns)

@@ -1,0 +1,3 @@
+// The calls that make a state anew or smaller: format, compaction.
+pub mod compact;
+pub mod format;

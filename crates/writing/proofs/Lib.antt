@@ -1,0 +1,15 @@
+pub mod Marks
+pub mod Places
+pub mod Listed
+pub mod Inserting
+pub mod Rooms
+pub mod Lending
+pub mod Ending
+pub mod Sharing
+pub mod Turns
+pub mod Putting
+pub mod Offsets
+pub mod Learned
+pub mod Again
+pub mod Arrays
+pub mod Written
