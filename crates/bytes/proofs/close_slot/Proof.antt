@@ -24,9 +24,6 @@ mul-from c = omega (arith, last (c .before))
 add-from : tie.Need-add-from
 add-from c = omega (arith, last (c .before))
 
-sub-to : tie.Need-sub-to
-sub-to c = search needs
-
 mul-to : tie.Need-mul-to
 mul-to c = omega (arith, last (c .before))
 
@@ -36,13 +33,6 @@ add-to c = omega (arith, last (c .before))
 move-down-requires : tie.Need-move-down-requires
 move-down-requires c κs = (omega (arith, last (c .before .before)), omega (arith, last (c .before .before)))
 
-same-length : tie.Need-same-length
-same-length c = search needs
-
-returns : tie.Need-returns
-returns c = search needs
-
 pub close-slot-spec : {M : Type 1} → statement M
-close-slot-spec =
-    tie.close
-    (tie.spec mul-from add-from sub-to mul-to add-to move-down-requires same-length returns)
+close-slot-spec = tie.close (tie.spec mul-from add-from (λ c. search needs) mul-to add-to move-down-requires
+    (λ c. search needs) (λ c. search needs))

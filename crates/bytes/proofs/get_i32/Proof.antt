@@ -6,15 +6,9 @@ use borrow.Author.Needs.{needs}
 use Rattle.bytes.proofs.get_i32.Statement.{statement}
 use Rattle.bytes.proofs.get_i32.Tie as tie
 
-get-u32-requires : tie.Need-get-u32-requires
-get-u32-requires c κs = search needs
-
-to-signed-requires : tie.Need-to-signed-requires
-to-signed-requires c κs = search needs
-
 returns : tie.Need-returns
 unfolding le32s
 returns c = toZ-ofZ (record { sfits = c .to-signed .ok }) ∙ c .to-signed .ensures ∙ ap signed32 (c .before .get-u32 .ensures)
 
 pub get-i32-spec : {M : Type 1} → statement M
-get-i32-spec = tie.close (tie.spec get-u32-requires to-signed-requires returns)
+get-i32-spec = tie.close (tie.spec (λ c κs. search needs) (λ c κs. search needs) returns)

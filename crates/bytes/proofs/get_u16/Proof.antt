@@ -4,25 +4,10 @@ use borrow.Author.Needs.{needs}
 use Rattle.bytes.proofs.get_u16.Statement.{statement}
 use Rattle.bytes.proofs.get_u16.Tie as tie
 
-get-u8-requires : tie.Need-get-u8-requires
-get-u8-requires c κs = search needs
-
-add-get-u8 : tie.Need-add-get-u8
-add-get-u8 c = search needs
-
-get-u8-requires-2 : tie.Need-get-u8-requires-2
-get-u8-requires-2 c κs = search needs
-
-mul-result : tie.Need-mul-result
-mul-result c = search needs
-
-add-result : tie.Need-add-result
-add-result c = search needs
-
 returns : tie.Need-returns
 unfolding le16
 returns c = search needs
 
 pub get-u16-spec : {M : Type 1} → statement M
-get-u16-spec =
-    tie.close (tie.spec get-u8-requires add-get-u8 get-u8-requires-2 mul-result add-result returns)
+get-u16-spec = tie.close (tie.spec (λ c κs. search needs) (λ c. search needs) (λ c κs. search needs) (λ c. search needs)
+    (λ c. search needs) returns)

@@ -17,27 +17,9 @@ abbrev μ-loop : tie.MeasureT-loop
 loop-holds : tie.Need-loop-holds Inv-loop μ-loop
 loop-holds c = (omega arith, omega arith, refl, refl)
 
-sub-j : tie.Need-sub-j Inv-loop μ-loop
-sub-j c = omega arith
-
-slice-read-s : tie.Need-slice-read-s Inv-loop μ-loop
-slice-read-s c = omega arith
-
-add-s : tie.Need-add-s Inv-loop μ-loop
-add-s c = omega arith
-
-slice-write-s : tie.Need-slice-write-s Inv-loop μ-loop
-slice-write-s c = omega arith
-
-loop-less : tie.Need-loop-less Inv-loop μ-loop
-loop-less c = omega arith
-
 loop-again : tie.Need-loop-again Inv-loop μ-loop
 loop-again c =
     (omega arith, omega arith, simp length-set (omega arith), movedUp-turn _ _ _ _ (c .before .loop-test .taken) (omega arith) ∙ c .before .before .loop .inv .3)
-
-same-length : tie.Need-same-length Inv-loop μ-loop
-same-length c = omega arith
 
 returns : tie.Need-returns Inv-loop μ-loop
 returns c =
@@ -45,17 +27,5 @@ returns c =
     sym (movedUp-none _ _ _) ∙ rw e at (c .before .loop .inv .3)
 
 pub move-up-spec : {M : Type 1} → statement M
-move-up-spec =
-    tie.close
-    (tie.spec
-    Inv-loop
-    μ-loop
-    loop-holds
-    sub-j
-    slice-read-s
-    add-s
-    slice-write-s
-    loop-less
-    loop-again
-    same-length
-    returns)
+move-up-spec = tie.close (tie.spec Inv-loop μ-loop loop-holds (λ c. omega arith) (λ c. omega arith) (λ c. omega arith)
+    (λ c. omega arith) (λ c. omega arith) loop-again (λ c. omega arith) returns)

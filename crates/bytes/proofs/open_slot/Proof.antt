@@ -16,21 +16,9 @@ mul-from c = omega (arith, ordered (c .before))
 add-from : tie.Need-add-from
 add-from c = omega (arith, ordered (c .before))
 
-mul-to : tie.Need-mul-to
-mul-to c = search needs
-
-add-to : tie.Need-add-to
-add-to c = search needs
-
 move-up-requires : tie.Need-move-up-requires
 move-up-requires c κs = (omega (arith, ordered (c .before .before)), omega arith)
 
-same-length : tie.Need-same-length
-same-length c = search needs
-
-returns : tie.Need-returns
-returns c = search needs
-
 pub open-slot-spec : {M : Type 1} → statement M
-open-slot-spec =
-    tie.close (tie.spec mul-from add-from mul-to add-to move-up-requires same-length returns)
+open-slot-spec = tie.close (tie.spec mul-from add-from (λ c. search needs) (λ c. search needs) move-up-requires
+    (λ c. search needs) (λ c. search needs))

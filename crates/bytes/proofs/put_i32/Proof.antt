@@ -9,15 +9,6 @@ use borrow.Author.Needs.{needs}
 use Rattle.bytes.proofs.put_i32.Statement.{statement}
 use Rattle.bytes.proofs.put_i32.Tie as tie
 
-from-signed-requires : tie.Need-from-signed-requires
-from-signed-requires c κs = search needs
-
-put-u32-requires : tie.Need-put-u32-requires
-put-u32-requires c κs = search needs
-
-same-length : tie.Need-same-length
-same-length c = search needs
-
 returns : tie.Need-returns
 returns c =
     let start = c .before .before .before .before .before .before in
@@ -25,4 +16,4 @@ returns c =
     ∙ ap (λ (v : ℕ). store (now (start .args .s)) (start .args .p) (bytes4 v)) (c .before .before .before .from-signed .ensures ∙ ap bits32 (toZ-ofZ (start .fits .z)))
 
 pub put-i32-spec : {M : Type 1} → statement M
-put-i32-spec = tie.close (tie.spec from-signed-requires put-u32-requires same-length returns)
+put-i32-spec = tie.close (tie.spec (λ c κs. search needs) (λ c κs. search needs) (λ c. search needs) returns)

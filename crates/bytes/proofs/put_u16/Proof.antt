@@ -4,21 +4,9 @@ use borrow.Author.Needs.{needs}
 use Rattle.bytes.proofs.put_u16.Statement.{statement}
 use Rattle.bytes.proofs.put_u16.Tie as tie
 
-put-u8-requires : tie.Need-put-u8-requires
-put-u8-requires c κs = search needs
-
-add-put-u8 : tie.Need-add-put-u8
-add-put-u8 c = search needs
-
-put-u8-requires-2 : tie.Need-put-u8-requires-2
-put-u8-requires-2 c κs = search needs
-
-same-length : tie.Need-same-length
-same-length c = search needs
-
 returns : tie.Need-returns
 returns c = two-stored _ _ _ _ _ (c .before .before .before .before .before .before .before .before .before .pre .1) (c .before .before .before .before .before .before .put-u8 .ensures) (c .before .before .put-u82 .ensures)
 
 pub put-u16-spec : {M : Type 1} → statement M
-put-u16-spec =
-    tie.close (tie.spec put-u8-requires add-put-u8 put-u8-requires-2 same-length returns)
+put-u16-spec = tie.close (tie.spec (λ c κs. search needs) (λ c. search needs) (λ c κs. search needs) (λ c. search needs)
+    returns)

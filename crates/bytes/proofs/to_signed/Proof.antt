@@ -22,15 +22,6 @@ high c =
     let e : c .before .args .n ≡ 4294967296 - suc (4294967295 - c .before .args .n) = omega arith in
     ap (toZ w32) e ∙ toZ-neg w32 (4294967295 - c .before .args .n) (omega arith)
 
-cast-result : tie.Need-cast-result
-cast-result c = search needs
-
-sub-result : tie.Need-sub-result
-sub-result c = search needs
-
-cast-result-2 : tie.Need-cast-result-2
-cast-result-2 c = search needs
-
 sub-result-2 : tie.Need-sub-result-2
 sub-result-2 c = rw (low c) (rw minus-one (record { sfits = omega arith }))
 
@@ -43,5 +34,5 @@ unfolding signed32
 returns-2 c = ap (λ (z : ℤ). toZ w32 (ofZ w32 (negsuc 0 -ℤ z))) (low c) ∙ ap (λ (z : ℤ). toZ w32 (ofZ w32 z)) (minus-one (4294967295 - c .before .args .n)) ∙ toZ-neg w32 (4294967295 - c .before .args .n) (omega arith) ∙ sym (high c)
 
 pub to-signed-spec : {M : Type 1} → statement M
-to-signed-spec =
-    tie.close (tie.spec cast-result sub-result cast-result-2 sub-result-2 returns returns-2)
+to-signed-spec = tie.close (tie.spec (λ c. search needs) (λ c. search needs) (λ c. search needs) sub-result-2 returns
+    returns-2)

@@ -40,15 +40,6 @@ size-right c = sym (c .before .wrong-size .ensures) ∙ c .if4 .left
 inside : (c : tie.Else5) → all (λ x. ltb x (held (c .before .before .before .before .before .before .before .before .before .before) .N)) (c .before .before .before .before .before .before .before .before .before .before .before .before .before .before .before .before .before .before .args .batch .now) ≡ true
 inside c = sym (c .before .in-range .ensures) ∙ not-false (c .before .in-range .result) (c .if5 .left)
 
-check-state-requires : tie.Need-check-state-requires
-check-state-requires c κs = search needs
-
-enum-known-opened : tie.Need-enum-known-opened
-enum-known-opened c = search needs
-
-enum-known-opened-2 : tie.Need-enum-known-opened-2
-enum-known-opened-2 c = search needs
-
 returns : tie.Need-returns
 unfolding Clears
 returns c = not-open _ _ _ _ _ (answered-refusal _ _ _ (c .before .before .before .check-state .ensures) (c .before .opened2 .given .1))
@@ -59,9 +50,6 @@ spare-len-requires c κs = shape c .limits
 returns-2 : tie.Need-returns-2
 unfolding Clears refusalOf
 returns-2 c = spare-wrong _ _ _ _ _ (shape (c .before .before)) (λ e. c .if1 .taken (e ∙ sym (c .before .spare-len .ensures)))
-
-cast-if2 : tie.Need-cast-if2
-cast-if2 c = search needs
 
 returns-3 : tie.Need-returns-3
 unfolding Clears refusalOf
@@ -76,17 +64,11 @@ returns-4 c =
     unsound _ _ _ _ _ (shape (c .before .before .before .before .before .before)) (fits (c .before .before .before .before)) (c .before .before .if2 .left)
     (sym (c .before .sound .ensures) ∙ not-true (c .before .sound .result) (c .if3 .taken))
 
-wrong-size-requires : tie.Need-wrong-size-requires
-wrong-size-requires c κs = search needs
-
 returns-5 : tie.Need-returns-5
 unfolding Clears refusalOf
 returns-5 c =
     size-wrong _ _ _ _ _ (shape (c .before .before .before .before .before .before .before .before)) (fits (c .before .before .before .before .before .before)) (c .before .before .before .before .if2 .left) (sound (c .before .before))
     (sym (c .before .wrong-size .ensures) ∙ c .if4 .taken)
-
-in-range-requires : tie.Need-in-range-requires
-in-range-requires c κs = search needs
 
 returns-6 : tie.Need-returns-6
 unfolding Clears refusalOf
@@ -111,23 +93,6 @@ returns-8 c = (
 )
 
 pub check-spec : {M : Type 1} → statement M
-check-spec =
-    tie.close
-    (tie.spec
-    check-state-requires
-    enum-known-opened
-    enum-known-opened-2
-    returns
-    spare-len-requires
-    returns-2
-    cast-if2
-    returns-3
-    sound-requires
-    returns-4
-    wrong-size-requires
-    returns-5
-    in-range-requires
-    returns-6
-    free-count-requires
-    returns-7
-    returns-8)
+check-spec = tie.close (tie.spec (λ c κs. search needs) (λ c. search needs) (λ c. search needs) returns
+    spare-len-requires returns-2 (λ c. search needs) returns-3 sound-requires returns-4 (λ c κs. search needs) returns-5
+    (λ c κs. search needs) returns-6 free-count-requires returns-7 returns-8)

@@ -37,24 +37,6 @@ all-passed c = passed _ _ _ _ _ (shape c) (clear c)
 inside : (c : tie.After-lowest-free) → c .lowest-free .result < held (c .before .before) .M
 inside c = lowest-inside _ _ _ _ _ (shape (c .before .before)) (clear (c .before .before)) _ (c .lowest-free .ensures)
 
-check-requires : tie.Need-check-requires
-check-requires c κs = search needs
-
-enum-known-opened : tie.Need-enum-known-opened
-enum-known-opened c = search needs
-
-enum-known-opened-2 : tie.Need-enum-known-opened-2
-enum-known-opened-2 c = search needs
-
-same-length : tie.Need-same-length
-same-length c = search needs
-
-same-length-2 : tie.Need-same-length-2
-same-length-2 c = search needs
-
-same-length-3 : tie.Need-same-length-3
-same-length-3 c = search needs
-
 returns : tie.Need-returns
 unfolding flushAnswer
 returns c = flush-refused _ _ _ _ _ (cleared-refusal _ _ _ _ (c .before .before .before .check .ensures) (c .before .opened2 .given .1))
@@ -70,15 +52,6 @@ write-batch-requires c κs =
 mul-t26 : tie.Need-mul-t26
 mul-t26 c = omega (arith, room _ _ (shape (c .before .before .before .before .before .before .before .before .before .before .before .before .before)) _ (inside (c .before .before .before .before .before .before .before .before .before .before .before)) 0 (omega arith))
 
-same-length-4 : tie.Need-same-length-4
-same-length-4 c = search needs
-
-same-length-5 : tie.Need-same-length-5
-same-length-5 c = search needs
-
-same-length-6 : tie.Need-same-length-6
-same-length-6 c = search needs
-
 returns-2 : tie.Need-returns-2
 unfolding flushAnswer
 returns-2 c =
@@ -86,20 +59,6 @@ returns-2 c =
     flush-written _ _ _ _ _ (shape (c .before .before .before .before .before .before .before .before .before .before .before .before .before)) (clear (c .before .before .before .before .before .before .before .before .before .before .before .before .before)) _ _ _ _ _ (c .before .before .before .before .before .before .before .before .before .before .before .lowest-free .ensures) (e .0) (e .1 .0) (e .1 .1 .0) (e .1 .1 .1)
 
 pub flush-spec : {M : Type 1} → statement M
-flush-spec =
-    tie.close
-    (tie.spec
-    check-requires
-    enum-known-opened
-    enum-known-opened-2
-    same-length
-    same-length-2
-    same-length-3
-    returns
-    lowest-free-requires
-    write-batch-requires
-    mul-t26
-    same-length-4
-    same-length-5
-    same-length-6
-    returns-2)
+flush-spec = tie.close (tie.spec (λ c κs. search needs) (λ c. search needs) (λ c. search needs) (λ c. search needs)
+    (λ c. search needs) (λ c. search needs) returns lowest-free-requires write-batch-requires mul-t26
+    (λ c. search needs) (λ c. search needs) (λ c. search needs) returns-2)

@@ -23,12 +23,6 @@ few c = omega (arith, c .pre .1 .0, within c .most-B)
 front : (c : tie.After-sort-batch) → Front (c .before .before .before .before .before .before .before .args .batch .now) (c .sort-batch .result) (c .sort-batch .last .1 .0) (c .sort-batch .last .1 .1 .0)
 front c = sorted-front _ _ _ _ _ _ (few (c .before .before .before .before .before .before .before)) (few (c .before .before .before .before .before .before .before)) (c .sort-batch .ensures .0) (c .sort-batch .ensures .1 .0) (c .sort-batch .ensures .1 .1)
 
-slice-aggregate-sort-batch : tie.Need-slice-aggregate-sort-batch
-slice-aggregate-sort-batch c = search needs
-
-slice-aggregate-sort-batch-2 : tie.Need-slice-aggregate-sort-batch-2
-slice-aggregate-sort-batch-2 c = search needs
-
 sort-batch-requires : tie.Need-sort-batch-requires
 sort-batch-requires c κs =
     let at-start = c .before .before .before .before .before .before in
@@ -60,34 +54,12 @@ write-block-requires c κs =
 cast-result : tie.Need-cast-result
 cast-result c = omega (arith, front (c .before .before .before .before .before .before .before .before .before .before .before .before .before .before) .few, few (c .before .before .before .before .before .before .before .before .before .before .before .before .before .before .before .before .before .before .before .before .before))
 
-same-length : tie.Need-same-length
-same-length c = search needs
-
-same-length-2 : tie.Need-same-length-2
-same-length-2 c = search needs
-
-same-length-3 : tie.Need-same-length-3
-same-length-3 c = search needs
-
 returns : tie.Need-returns
 returns c =
     let e = c .before .before .before .before .before .before .write-block .ensures in
     front-taken _ _ _ _ (front (c .before .before .before .before .before .before .before .before .before .before .before .before .before .before)) _ _ _ _ _ _ _ _ (e .0) (e .1 .0) (e .1 .1)
 
 pub write-batch-spec : {M : Type 1} → statement M
-write-batch-spec =
-    tie.close
-    (tie.spec
-    slice-aggregate-sort-batch
-    slice-aggregate-sort-batch-2
-    sort-batch-requires
-    array-share-prefix-pages
-    slice-aggregate-write-block
-    array-share-prefix-sources
-    slice-aggregate-write-block-2
-    write-block-requires
-    cast-result
-    same-length
-    same-length-2
-    same-length-3
-    returns)
+write-batch-spec = tie.close (tie.spec (λ c. search needs) (λ c. search needs) sort-batch-requires
+    array-share-prefix-pages slice-aggregate-write-block array-share-prefix-sources slice-aggregate-write-block-2
+    write-block-requires cast-result (λ c. search needs) (λ c. search needs) (λ c. search needs) returns)

@@ -28,9 +28,6 @@ used-requires : tie.Need-used-requires Inv-loop μ-loop
 unfolding groupLength
 used-requires c κs = c .before .pre .0
 
-cast-n : tie.Need-cast-n Inv-loop μ-loop
-cast-n c = search needs
-
 owner-requires : tie.Need-owner-requires Inv-loop μ-loop
 unfolding groupLength
 owner-requires c κs = (c .before .before .pre .0, c .before .before .pre .2)
@@ -42,25 +39,10 @@ slot-at-requires : tie.Need-slot-at-requires Inv-loop μ-loop
 unfolding groupLength
 slot-at-requires c κs = (c .before .before .before .before .before .pre .0, omega arith)
 
-add-member : tie.Need-add-member Inv-loop μ-loop
-add-member c = search needs
-
-member-requires : tie.Need-member-requires Inv-loop μ-loop
-member-requires c κs = search needs
-
-add-t12 : tie.Need-add-t12 Inv-loop μ-loop
-add-t12 c = search needs
-
 returns : tie.Need-returns Inv-loop μ-loop
 returns c =
     hit-read _ _ (c .before .before .before .before .before .before .before .before .before .before .before .pre .1) _
     (sym (c .before .before .before .before .before .before .before .loop .inv .2 ∙ hit-found _ _ _ _ (c .before .before .before .before .before .before .loop-test .taken) _ _ (c .before .before .before .before .before .slot-at .ensures .0) (has (c .before .before)) (c .before .if1 .taken)))
-
-add-i : tie.Need-add-i Inv-loop μ-loop
-add-i c = search needs
-
-loop-less : tie.Need-loop-less Inv-loop μ-loop
-loop-less c = omega arith
 
 loop-again : tie.Need-loop-again Inv-loop μ-loop
 loop-again c = (
@@ -80,22 +62,6 @@ returns-2 c =
     (ap Nowhere (c .levels-at .ensures ∙ ap (levelsAt (c .before .before .before .before .before .before .args .b .now)) (sym e)) ∙ sym (c .before .before .loop .inv .2 ∙ hit-nowhere _ _ _ _ (c .before .loop-test .left)))
 
 pub find-spec : {M : Type 1} → statement M
-find-spec =
-    tie.close
-    (tie.spec
-    Inv-loop
-    μ-loop
-    used-requires
-    cast-n
-    owner-requires
-    loop-holds
-    slot-at-requires
-    add-member
-    member-requires
-    add-t12
-    returns
-    add-i
-    loop-less
-    loop-again
-    levels-at-requires
-    returns-2)
+find-spec = tie.close (tie.spec Inv-loop μ-loop used-requires (λ c. search needs) owner-requires loop-holds
+    slot-at-requires (λ c. search needs) (λ c κs. search needs) (λ c. search needs) returns (λ c. search needs)
+    (λ c. omega arith) loop-again levels-at-requires returns-2)

@@ -7,28 +7,12 @@ use Rattle.group.proofs.in_range.Tie as tie
 returns : tie.Need-returns
 returns c = range-none _ _ _ (c .if1 .taken)
 
-sub-if2 : tie.Need-sub-if2
-sub-if2 c = search needs
-
 returns-2 : tie.Need-returns-2
 returns-2 c = range-before _ _ _ (c .before .if1 .left) (c .if2 .taken)
-
-sub-i : tie.Need-sub-i
-sub-i c = search needs
-
-cast-i : tie.Need-cast-i
-cast-i c = search needs
-
-mul-result : tie.Need-mul-result
-mul-result c = search needs
-
-shared-slice-read-result : tie.Need-shared-slice-read-result
-shared-slice-read-result c = search needs
 
 returns-3 : tie.Need-returns-3
 returns-3 c = range-in _ _ _ (c .before .before .if1 .left) (c .before .if2 .left)
 
 pub in-range-spec : {M : Type 1} → statement M
-in-range-spec =
-    tie.close
-    (tie.spec returns sub-if2 returns-2 sub-i cast-i mul-result shared-slice-read-result returns-3)
+in-range-spec = tie.close (tie.spec returns (λ c. search needs) returns-2 (λ c. search needs) (λ c. search needs)
+    (λ c. search needs) (λ c. search needs) returns-3)

@@ -21,9 +21,6 @@ abbrev μ-loop : tie.MeasureT-loop
 asked : (c : tie.After-in-range Inv-loop μ-loop) → c .in-range .result ≡ inRange (c .before .before .before .before .before .before .before .before .args .ends .now) (c .before .before .before .loop .o) (ownerOf (c .before .before .before .before .before .before .before .before .args .b .now) (c .before .before .before .loop .o))
 asked c = c .in-range .ensures ∙ ap (inRange (c .before .before .before .before .before .before .before .before .args .ends .now) (c .before .before .before .loop .o)) (c .before .owner .ensures .0)
 
-get-u16-requires : tie.Need-get-u16-requires Inv-loop μ-loop
-get-u16-requires c κs = search needs
-
 returns : tie.Need-returns Inv-loop μ-loop
 unfolding flagOf
 returns c = sym (none-pass _ _ (sym (c .before .get-u16 .ensures .0) ∙ c .if1 .taken))
@@ -31,20 +28,8 @@ returns c = sym (none-pass _ _ (sym (c .before .get-u16 .ensures .0) ∙ c .if1 
 loop-holds : tie.Need-loop-holds Inv-loop μ-loop
 loop-holds c = (omega arith, refl)
 
-owner-requires : tie.Need-owner-requires Inv-loop μ-loop
-owner-requires c κs = search needs
-
-in-range-requires : tie.Need-in-range-requires Inv-loop μ-loop
-in-range-requires c κs = search needs
-
 returns-2 : tie.Need-returns-2 Inv-loop μ-loop
 returns-2 c = sym (c .before .before .before .before .loop .inv .1 ∙ every-fails _ 256 _ (c .before .before .before .loop-test .taken) _ (asked (c .before)) (not-true _ (c .if2 .taken)))
-
-add-o : tie.Need-add-o Inv-loop μ-loop
-add-o c = search needs
-
-loop-less : tie.Need-loop-less Inv-loop μ-loop
-loop-less c = omega arith
 
 loop-again : tie.Need-loop-again Inv-loop μ-loop
 loop-again c = (omega arith, c .before .before .before .before .loop .inv .1 ∙ every-holds _ 256 _ (c .before .before .before .loop-test .taken) _ (asked (c .before)) (not-false _ (c .if2 .left)))
@@ -53,18 +38,5 @@ returns-3 : tie.Need-returns-3 Inv-loop μ-loop
 returns-3 c = sym (c .before .loop .inv .1 ∙ every-done _ 256 _ (c .loop-test .left))
 
 pub owners-pass-spec : {M : Type 1} → statement M
-owners-pass-spec =
-    tie.close
-    (tie.spec
-    Inv-loop
-    μ-loop
-    get-u16-requires
-    returns
-    loop-holds
-    owner-requires
-    in-range-requires
-    returns-2
-    add-o
-    loop-less
-    loop-again
-    returns-3)
+owners-pass-spec = tie.close (tie.spec Inv-loop μ-loop (λ c κs. search needs) returns loop-holds (λ c κs. search needs)
+    (λ c κs. search needs) returns-2 (λ c. search needs) (λ c. omega arith) loop-again returns-3)

@@ -7,52 +7,16 @@ use Rattle.group.proofs.owns_ends.Tie as tie
 returns : tie.Need-returns
 returns c = ends-other _ _ _ (c .if1 .taken)
 
-cast-i : tie.Need-cast-i
-cast-i c = search needs
-
-mul-if2 : tie.Need-mul-if2
-mul-if2 c = search needs
-
-shared-slice-read-if2 : tie.Need-shared-slice-read-if2
-shared-slice-read-if2 c = search needs
-
 returns-2 : tie.Need-returns-2
 returns-2 c = ends-seen _ _ _ (c .before .before .before .if1 .left) (c .if2 .taken)
 
-owner-requires : tie.Need-owner-requires
-owner-requires c κs = search needs
-
-add-if3 : tie.Need-add-if3
-add-if3 c = search needs
-
 returns-3 : tie.Need-returns-3
 returns-3 c = ends-start _ _ _ (c .before .before .before .before .before .before .if1 .left) (c .before .before .before .if2 .left) _ (c .before .before .owner .ensures .0) (c .if3 .taken)
-
-add-owner : tie.Need-add-owner
-add-owner c = search needs
-
-owner-requires-2 : tie.Need-owner-requires-2
-owner-requires-2 c κs = search needs
-
-add-result : tie.Need-add-result
-add-result c = search needs
 
 returns-4 : tie.Need-returns-4
 returns-4 c = ends-both _ _ _ (c .before .before .before .before .before .before .before .before .before .if1 .left) (c .before .before .before .before .before .before .if2 .left) _ (c .before .before .before .before .before .owner .ensures .0) (c .before .before .before .if3 .left) _ (c .before .owner2 .ensures .0)
 
 pub owns-ends-spec : {M : Type 1} → statement M
-owns-ends-spec =
-    tie.close
-    (tie.spec
-    returns
-    cast-i
-    mul-if2
-    shared-slice-read-if2
-    returns-2
-    owner-requires
-    add-if3
-    returns-3
-    add-owner
-    owner-requires-2
-    add-result
+owns-ends-spec = tie.close (tie.spec returns (λ c. search needs) (λ c. search needs) (λ c. search needs) returns-2
+    (λ c κs. search needs) (λ c. search needs) returns-3 (λ c. search needs) (λ c κs. search needs) (λ c. search needs)
     returns-4)

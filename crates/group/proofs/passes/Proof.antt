@@ -8,14 +8,8 @@ use borrow.Author.Needs.{needs}
 use Rattle.group.proofs.passes.Statement.{statement}
 use Rattle.group.proofs.passes.Tie as tie
 
-shaped-requires : tie.Need-shaped-requires
-shaped-requires c κs = search needs
-
 returns : tie.Need-returns
 returns c = (first-fails _ _ _ (sym (c .before .shaped .ensures) ∙ not-true _ (c .if1 .taken)), λ e. absurd (true≢false (sym e)))
-
-in-place-requires : tie.Need-in-place-requires
-in-place-requires c κs = search needs
 
 returns-2 : tie.Need-returns-2
 returns-2 c = (second-fails _ _ _ (sym (c .before .before .before .shaped .ensures) ∙ not-false _ (c .before .before .if1 .left)) (sym (c .before .in-place .ensures) ∙ not-true _ (c .if2 .taken)), λ e. absurd (true≢false (sym e)))
@@ -29,6 +23,5 @@ returns-3 c =
     (third-decides _ _ _ _ shape (sym (c .before .before .in-place .ensures) ∙ not-false _ (c .before .if2 .left)) (c .owns-ends .ensures), λ e. shaped-byte _ _ (c .before .before .before .before .before .before .before .before .args .s .held) shape)
 
 pub passes-spec : {M : Type 1} → statement M
-passes-spec =
-    tie.close
-    (tie.spec shaped-requires returns in-place-requires returns-2 owns-ends-requires returns-3)
+passes-spec = tie.close (tie.spec (λ c κs. search needs) returns (λ c κs. search needs) returns-2 owns-ends-requires
+    returns-3)

@@ -4,17 +4,8 @@ use borrow.Author.Needs.{needs}
 use Rattle.group.proofs.shaped.Statement.{statement}
 use Rattle.group.proofs.shaped.Tie as tie
 
-add-e : tie.Need-add-e
-add-e c = search needs
-
 returns : tie.Need-returns
 returns c = shaped-past _ _ _ (c .if1 .taken)
-
-mul-if2 : tie.Need-mul-if2
-mul-if2 c = search needs
-
-add-if2 : tie.Need-add-if2
-add-if2 c = search needs
 
 returns-2 : tie.Need-returns-2
 returns-2 c = shaped-beyond _ _ _ (c .before .if1 .left) (c .if2 .taken)
@@ -28,23 +19,9 @@ returns-4 c = shaped-slope _ _ _ (c .before .before .before .if1 .left) (c .befo
 returns-5 : tie.Need-returns-5
 returns-5 c = shaped-wide _ _ _ (c .before .before .before .before .if1 .left) (c .before .before .before .if2 .left) (c .before .before .if3 .left) (c .before .if4 .left) (c .if5 .taken)
 
-rem-result : tie.Need-rem-result
-rem-result c = search needs
-
 returns-6 : tie.Need-returns-6
 returns-6 c = shaped-stride _ _ _ (c .before .before .before .before .before .if1 .left) (c .before .before .before .before .if2 .left) (c .before .before .before .if3 .left) (c .before .before .if4 .left) (c .before .if5 .left)
 
 pub shaped-spec : {M : Type 1} → statement M
-shaped-spec =
-    tie.close
-    (tie.spec
-    add-e
-    returns
-    mul-if2
-    add-if2
-    returns-2
-    returns-3
-    returns-4
-    returns-5
-    rem-result
-    returns-6)
+shaped-spec = tie.close (tie.spec (λ c. search needs) returns (λ c. search needs) (λ c. search needs) returns-2
+    returns-3 returns-4 returns-5 (λ c. search needs) returns-6)

@@ -22,12 +22,6 @@ Inv-loop b ends₀ n k m levels₀ from₀ i₀ ends levels from i =
 abbrev μ-loop : tie.MeasureT-loop
 μ-loop b ends₀ n k m levels₀ from₀ i₀ ends levels from i = m - i
 
-used-requires : tie.Need-used-requires Inv-loop μ-loop
-used-requires c κs = search needs
-
-cast-m : tie.Need-cast-m Inv-loop μ-loop
-cast-m c = search needs
-
 loop-holds : tie.Need-loop-holds Inv-loop μ-loop
 loop-holds c =
     let e = slots-all _ _ (c .used .ensures .0) in
@@ -39,9 +33,6 @@ slot-at-requires c κs = (c .before .before .before .before .before .pre .0, ome
 passes-requires : tie.Need-passes-requires Inv-loop μ-loop
 passes-requires c κs = (c .before .before .before .before .before .before .before .pre .0, c .before .before .before .loop .inv .2, c .before .slot-at .ensures .1, c .before .slot-at .ensures .2, c .before .before .before .before .before .before .before .pre .3)
 
-same-length : tie.Need-same-length Inv-loop μ-loop
-same-length c = omega arith
-
 returns : tie.Need-returns Inv-loop μ-loop
 returns c = (
   sym (c .before .before .before .before .before .loop .inv .3 ∙ slot-fails _ _ _ _ _ _ _ _ (c .before .before .before .before .loop-test .taken) _ (c .before .before .before .slot-at .ensures .0) _ (c .before .passes .ensures .0) (not-true _ (c .if1 .taken))),
@@ -50,21 +41,6 @@ returns c = (
 
 note-requires : tie.Need-note-requires Inv-loop μ-loop
 note-requires c κs = (c .before .before .before .before .before .before .before .loop .inv .2, c .before .before .before .passes .ensures .1 (not-false _ (c .before .before .if1 .left)))
-
-add-levels : tie.Need-add-levels Inv-loop μ-loop
-add-levels c = search needs
-
-add-from : tie.Need-add-from Inv-loop μ-loop
-add-from c = search needs
-
-add-from-2 : tie.Need-add-from-2 Inv-loop μ-loop
-add-from-2 c = search needs
-
-add-i : tie.Need-add-i Inv-loop μ-loop
-add-i c = search needs
-
-loop-less : tie.Need-loop-less Inv-loop μ-loop
-loop-less c = omega arith
 
 loop-again : tie.Need-loop-again Inv-loop μ-loop
 loop-again c =
@@ -79,33 +55,12 @@ loop-again c =
       inv .4 ∙ slot-noted _ _ _ _ _ _ _ _ (c .before .before .before .before .before .before .before .before .before .before .before .loop-test .taken) _ slot _ test _ noted,
     )
 
-same-length-2 : tie.Need-same-length-2 Inv-loop μ-loop
-same-length-2 c = omega arith
-
 returns-2 : tie.Need-returns-2 Inv-loop μ-loop
 returns-2 c =
     let d = slots-done _ _ _ _ _ _ _ _ (c .loop-test .left) in
     (sym (c .before .loop .inv .3 ∙ d .0), λ e. sym (c .before .loop .inv .4 ∙ d .1))
 
 pub slots-pass-spec : {M : Type 1} → statement M
-slots-pass-spec =
-    tie.close
-    (tie.spec
-    Inv-loop
-    μ-loop
-    used-requires
-    cast-m
-    loop-holds
-    slot-at-requires
-    passes-requires
-    same-length
-    returns
-    note-requires
-    add-levels
-    add-from
-    add-from-2
-    add-i
-    loop-less
-    loop-again
-    same-length-2
-    returns-2)
+slots-pass-spec = tie.close (tie.spec Inv-loop μ-loop (λ c κs. search needs) (λ c. search needs) loop-holds
+    slot-at-requires passes-requires (λ c. omega arith) returns note-requires (λ c. search needs) (λ c. search needs)
+    (λ c. search needs) (λ c. search needs) (λ c. omega arith) loop-again (λ c. omega arith) returns-2)

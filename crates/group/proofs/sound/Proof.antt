@@ -15,18 +15,12 @@ used-requires c κs = c .before .pre .0
 returns : tie.Need-returns
 returns c = read-many _ _ _ (omega arith)
 
-slice-aggregate-slots-pass : tie.Need-slice-aggregate-slots-pass
-slice-aggregate-slots-pass c = search needs
-
 slots-pass-requires : tie.Need-slots-pass-requires
 unfolding groupLength
 slots-pass-requires c κs = (c .before .before .before .before .pre .0, omega arith, refl, c .before .before .before .before .pre .1)
 
 returns-2 : tie.Need-returns-2
 returns-2 c = read-unfit _ _ _ _ (c .before .before .slots-pass .ensures .0) (not-true _ (c .if2 .taken))
-
-slice-aggregate-owners-pass : tie.Need-slice-aggregate-owners-pass
-slice-aggregate-owners-pass c = search needs
 
 owners-pass-requires : tie.Need-owners-pass-requires
 unfolding groupLength
@@ -39,14 +33,5 @@ returns-3 c =
     read-owners _ _ _ _ (slots .0) e (omega arith) _ (slots .1 e) _ (c .owners-pass .ensures)
 
 pub sound-spec : {M : Type 1} → statement M
-sound-spec =
-    tie.close
-    (tie.spec
-    used-requires
-    returns
-    slice-aggregate-slots-pass
-    slots-pass-requires
-    returns-2
-    slice-aggregate-owners-pass
-    owners-pass-requires
-    returns-3)
+sound-spec = tie.close (tie.spec used-requires returns (λ c. search needs) slots-pass-requires returns-2
+    (λ c. search needs) owners-pass-requires returns-3)

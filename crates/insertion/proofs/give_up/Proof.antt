@@ -63,19 +63,5 @@ returns-3 : tie.Need-returns-3
 returns-3 c = give-gone _ _ (masked (c .before .before .before .before .before .before .before .before .before .before .before .before .before .args .taken .now)) (λ l shown. kind-held _ _ _ (c .before .before .before .before .before .before .before .before .before .before .before .before .before .pre .1) (c .before .before .before .before .before .before .before .before .before .get .ensures .0) _ (c .before .before .before .before .before .before .before .is-approximate .ensures) l shown ∙ not-false _ (c .before .before .before .before .before .before .if1 .left)) _ _ (c .before .before .before .before .shrink-owner .ensures) (c .enum-told2 .given .1)
 
 pub give-up-spec : {M : Type 1} → statement M
-give-up-spec =
-    tie.close
-    (tie.spec
-    get-requires
-    is-approximate-requires
-    add-result
-    same-length
-    returns
-    shrink-owner-requires
-    enum-told
-    add-result-2
-    same-length-2
-    returns-2
-    enum-told-2
-    same-length-3
-    returns-3)
+give-up-spec = tie.close (tie.spec get-requires is-approximate-requires add-result same-length returns
+    shrink-owner-requires enum-told add-result-2 same-length-2 returns-2 enum-told-2 same-length-3 returns-3)

@@ -48,16 +48,5 @@ returns : tie.Need-returns Inv-loop μ-loop
 returns c = λ l shown. giving-end _ l _ _ _ (c .loop-test .left) (c .before .loop .inv l shown)
 
 pub give-up-all-spec : {M : Type 1} → statement M
-give-up-all-spec =
-    tie.close
-    (tie.spec
-    Inv-loop
-    μ-loop
-    used-requires
-    loop-holds
-    give-up-requires
-    sub-k
-    loop-less
-    loop-again
-    same-length
-    returns)
+give-up-all-spec = tie.close (tie.spec Inv-loop μ-loop used-requires loop-holds give-up-requires sub-k loop-less
+    loop-again same-length returns)

@@ -56,18 +56,5 @@ returns-2 : tie.Need-returns-2
 returns-2 c = λ q. let shown = turned-exact _ _ _ q (sym (c .before .before .before .before .before .before .before .before .before .is-approximate .ensures (q .owned)) ∙ c .before .before .before .before .before .before .before .before .if1 .left) _ (c .before .before .before .before .before .before .victims2 .ensures) in read-inserted _ _ _ q _ (insert-exact _ _ _ q (sym (c .before .before .before .before .before .before .before .before .before .is-approximate .ensures (q .owned)) ∙ c .before .before .before .before .before .before .before .before .if1 .left) _ _ shown (c .before .before .top2 .ensures _ (q .owned) (shown .slots)))
 
 pub insert-spec : {M : Type 1} → statement M
-insert-spec =
-    tie.close
-    (tie.spec
-    is-approximate-requires
-    give-up-all-requires
-    settle-requires
-    victims-requires
-    top-requires
-    own-requires
-    same-length
-    returns
-    victims-requires-2
-    top-requires-2
-    same-length-2
-    returns-2)
+insert-spec = tie.close (tie.spec is-approximate-requires give-up-all-requires settle-requires victims-requires
+    top-requires own-requires same-length returns victims-requires-2 top-requires-2 same-length-2 returns-2)

@@ -50,17 +50,5 @@ returns-2 : tie.Need-returns-2 Inv-loop μ-loop
 returns-2 c = let n : length (slotsOf (c .before .before .before .before .args .b .now)) ≤ c .before .loop .j = omega (arith, c .before .before .used .ensures .1) in look-end _ _ _ _ (c .before .loop .inv .1) n
 
 pub meets-at-spec : {M : Type 1} → statement M
-meets-at-spec =
-    tie.close
-    (tie.spec
-    Inv-loop
-    μ-loop
-    used-requires
-    loop-holds
-    get-requires
-    meets-there-requires
-    returns
-    add-j
-    loop-less
-    loop-again
-    returns-2)
+meets-at-spec = tie.close (tie.spec Inv-loop μ-loop used-requires loop-holds get-requires meets-there-requires returns
+    add-j loop-less loop-again returns-2)

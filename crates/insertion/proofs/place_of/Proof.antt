@@ -51,17 +51,5 @@ returns-2 : tie.Need-returns-2 Inv-loop μ-loop
 returns-2 c = (omega (arith, c .before .before .used .ensures .1), let n : length (slotsOf (c .before .before .before .before .args .b .now)) ≤ c .before .loop .i = omega (arith, c .before .before .used .ensures .1) in pass-end _ _ _ _ (c .before .loop .inv .1) n)
 
 pub place-of-spec : {M : Type 1} → statement M
-place-of-spec =
-    tie.close
-    (tie.spec
-    Inv-loop
-    μ-loop
-    used-requires
-    loop-holds
-    get-requires
-    before-requires
-    returns
-    add-i
-    loop-less
-    loop-again
-    returns-2)
+place-of-spec = tie.close (tie.spec Inv-loop μ-loop used-requires loop-holds get-requires before-requires returns add-i
+    loop-less loop-again returns-2)

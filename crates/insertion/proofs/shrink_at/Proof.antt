@@ -39,14 +39,5 @@ returns-2 : tie.Need-returns-2
 returns-2 c = search needs
 
 pub shrink-at-spec : {M : Type 1} → statement M
-shrink-at-spec =
-    tie.close
-    (tie.spec
-    get-requires
-    is-approximate-requires
-    shrink-owner-requires
-    same-length
-    returns
-    shrink-other-requires
-    same-length-2
-    returns-2)
+shrink-at-spec = tie.close (tie.spec get-requires is-approximate-requires shrink-owner-requires same-length returns
+    shrink-other-requires same-length-2 returns-2)

@@ -46,16 +46,5 @@ returns-2 : tie.Need-returns-2
 returns-2 c = other-gone _ _ _ (c .before .before .before .before .before .before .before .before .before .before .before .before .pre .1) (c .before .before .before .before .before .before .before .before .get .ensures .0) (c .before .before .before .before .before .before .before .before .before .before .before .before .args .taken .now) _ (c .before .before .before .before .before .before .before .before .before .before .before .before .pre .3) (c .before .before .before .before .before .before .shrink-accurate .ensures) (c .before .before .before .before .enum-told .given .1) _ (c .before .before .remove .ensures)
 
 pub shrink-other-spec : {M : Type 1} → statement M
-shrink-other-spec =
-    tie.close
-    (tie.spec
-    get-requires
-    shrink-accurate-requires
-    enum-known-u
-    put-requires
-    same-length
-    returns
-    enum-told
-    remove-requires
-    same-length-2
-    returns-2)
+shrink-other-spec = tie.close (tie.spec get-requires shrink-accurate-requires enum-known-u put-requires same-length
+    returns enum-told remove-requires same-length-2 returns-2)

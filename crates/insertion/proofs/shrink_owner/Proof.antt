@@ -76,22 +76,7 @@ returns-2 : tie.Need-returns-2
 returns-2 c = owner-gone _ _ _ (c .before .before .before .before .before .before .before .before .before .before .before .before .before .before .before .before .before .before .before .before .before .pre .1) (c .before .before .before .before .before .before .before .before .before .before .before .before .before .before .before .before .before .get .ensures .0) (c .before .before .before .before .before .before .before .before .before .before .before .before .before .before .before .before .before .before .before .before .before .args .taken .now) _ (c .before .before .before .before .before .before .before .before .before .before .before .before .before .before .before .before .before .before .before .before .before .pre .3) (c .before .before .before .before .before .before .before .before .before .before .before .before .before .left-to .last .1 .1 .1 .0) (c .before .before .before .before .before .before .before .before .before .before .before .before .before .left-to .ensures .1) (c .before .before .before .before .before .before .before .before .before .before .shrink-approximate .ensures) (c .before .before .before .before .before .before .before .before .enum-told .given .1) _ _ (c .before .before .before .before .before .before .disown .ensures) (c .before .before .remove .ensures)
 
 pub shrink-owner-spec : {M : Type 1} → statement M
-shrink-owner-spec =
-    tie.close
-    (tie.spec
-    get-requires
-    slice-aggregate-left-to
-    left-to-requires
-    slice-aggregate-shrink-approximate
-    shrink-approximate-requires
-    enum-known-u
-    slice-aggregate-hand-over
-    hand-over-requires
-    put-requires
-    same-length
-    returns
-    enum-told
-    disown-requires
-    remove-requires
-    same-length-2
+shrink-owner-spec = tie.close (tie.spec get-requires slice-aggregate-left-to left-to-requires
+    slice-aggregate-shrink-approximate shrink-approximate-requires enum-known-u slice-aggregate-hand-over
+    hand-over-requires put-requires same-length returns enum-told disown-requires remove-requires same-length-2
     returns-2)

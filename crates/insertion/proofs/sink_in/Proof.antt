@@ -46,16 +46,5 @@ returns-2 : tie.Need-returns-2
 returns-2 c = sink-there _ _ _ (c .before .before .before .before .before .before .before .meets-at .ensures) (c .before .before .before .before .before .before .if1 .left) _ (c .before .before .before .before .place-of2 .ensures .1) _ (c .before .before .insert2 .ensures)
 
 pub sink-in-spec : {M : Type 1} → statement M
-sink-in-spec =
-    tie.close
-    (tie.spec
-    meets-at-requires
-    place-of-requires
-    raise-requires
-    insert-requires
-    same-length
-    returns
-    place-of-requires-2
-    insert-requires-2
-    same-length-2
-    returns-2)
+sink-in-spec = tie.close (tie.spec meets-at-requires place-of-requires raise-requires insert-requires same-length
+    returns place-of-requires-2 insert-requires-2 same-length-2 returns-2)

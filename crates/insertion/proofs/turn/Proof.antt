@@ -76,23 +76,6 @@ returns-4 : tie.Need-returns-4
 returns-4 c = turn-gone _ _ _ _ (c .before .before .before .before .before .before .before .before .before .before .before .before .before .args .mask .now) (c .before .before .before .before .before .before .before .before .before .before .before .before .before .pre .1) (c .before .before .before .before .before .before .before .before .before .get .ensures .0) (c .before .before .before .before .before .before .before .before .before .before .before .before .before .pre .2) _ (c .before .before .before .before .before .before .before .meets .ensures) (not-false _ (c .before .before .before .before .before .before .if1 .left)) _ _ (c .before .before .before .before .shrink-at .ensures) (c .enum-told .given .1)
 
 pub turn-spec : {M : Type 1} → statement M
-turn-spec =
-    tie.close
-    (tie.spec
-    get-requires
-    meets-requires
-    add-result
-    same-length
-    returns
-    shrink-at-requires
-    enum-known-u
-    meets-requires-2
-    add-result-2
-    same-length-2
-    returns-2
-    lower-requires
-    same-length-3
-    returns-3
-    enum-told
-    same-length-4
-    returns-4)
+turn-spec = tie.close (tie.spec get-requires meets-requires add-result same-length returns shrink-at-requires
+    enum-known-u meets-requires-2 add-result-2 same-length-2 returns-2 lower-requires same-length-3 returns-3 enum-told
+    same-length-4 returns-4)

@@ -47,16 +47,5 @@ returns : tie.Need-returns Inv-loop μ-loop
 returns c = λ q. turning-end _ _ _ _ _ _ (c .loop-test .left) (c .before .loop .inv q)
 
 pub victims-spec : {M : Type 1} → statement M
-victims-spec =
-    tie.close
-    (tie.spec
-    Inv-loop
-    μ-loop
-    place-of-requires
-    loop-holds
-    turn-requires
-    sub-k
-    loop-less
-    loop-again
-    same-length
-    returns)
+victims-spec = tie.close (tie.spec Inv-loop μ-loop place-of-requires loop-holds turn-requires sub-k loop-less loop-again
+    same-length returns)

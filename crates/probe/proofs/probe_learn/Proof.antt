@@ -76,22 +76,5 @@ returns c =
     (e .0, (bytes-all _ _ _ _ _ _ (so .0) _ _ (so .1) (c .loop-test .left), e .1))
 
 pub probe-learn-spec : {M : Type 1} → statement M
-probe-learn-spec =
-    tie.close
-    (tie.spec
-    Inv-loop
-    μ-loop
-    loop-holds
-    run-at-requires
-    mul-encode
-    encode-requires
-    cast-taken
-    mul-taken
-    slice-write-taken
-    add-i
-    add-n
-    loop-less
-    loop-again
-    same-length
-    same-length-2
-    returns)
+probe-learn-spec = tie.close (tie.spec Inv-loop μ-loop loop-holds run-at-requires mul-encode encode-requires cast-taken
+    mul-taken slice-write-taken add-i add-n loop-less loop-again same-length same-length-2 returns)

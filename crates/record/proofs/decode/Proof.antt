@@ -7,27 +7,6 @@ use borrow.Author.Needs.{needs}
 use Rattle.record.proofs.decode.Statement.{statement}
 use Rattle.record.proofs.decode.Tie as tie
 
-get-u8-requires : tie.Need-get-u8-requires
-get-u8-requires c κs = search needs
-
-add-get-u8 : tie.Need-add-get-u8
-add-get-u8 c = search needs
-
-get-u8-requires-2 : tie.Need-get-u8-requires-2
-get-u8-requires-2 c κs = search needs
-
-add-get-u16 : tie.Need-add-get-u16
-add-get-u16 c = search needs
-
-get-u16-requires : tie.Need-get-u16-requires
-get-u16-requires c κs = search needs
-
-add-get-i32 : tie.Need-add-get-i32
-add-get-i32 c = search needs
-
-get-i32-requires : tie.Need-get-i32-requires
-get-i32-requires c κs = search needs
-
 returns : tie.Need-returns
 unfolding recordAt
 returns c =
@@ -38,14 +17,5 @@ returns c =
     (rw (start .0, span .0, word .0, intercept), (start .1, span .1, word .1))
 
 pub decode-spec : {M : Type 1} → statement M
-decode-spec =
-    tie.close
-    (tie.spec
-    get-u8-requires
-    add-get-u8
-    get-u8-requires-2
-    add-get-u16
-    get-u16-requires
-    add-get-i32
-    get-i32-requires
-    returns)
+decode-spec = tie.close (tie.spec (λ c κs. search needs) (λ c. search needs) (λ c κs. search needs) (λ c. search needs)
+    (λ c κs. search needs) (λ c. search needs) (λ c κs. search needs) returns)

@@ -22,12 +22,6 @@ staying-requires c κs = (c .before .before .before .pre .0, omega arith)
 returns : tie.Need-returns Inv-loop μ-loop
 returns c = (c .before .before .before .loop .inv, λ h. sym (c .before .staying .ensures) ∙ c .if1 .taken)
 
-add-o : tie.Need-add-o Inv-loop μ-loop
-add-o c = omega arith
-
-loop-less : tie.Need-loop-less Inv-loop μ-loop
-loop-less c = omega arith
-
 loop-again : tie.Need-loop-again Inv-loop μ-loop
 loop-again c = up-step _ _ _ _ (c .before .before .before .loop .inv) (sym (c .before .staying .ensures) ∙ c .if1 .left)
 
@@ -35,15 +29,5 @@ returns-2 : tie.Need-returns-2 Inv-loop μ-loop
 returns-2 c = (c .before .loop .inv, λ h. absurd (let z : ⊥ = omega arith in z))
 
 pub first-spec : {M : Type 1} → statement M
-first-spec =
-    tie.close
-    (tie.spec
-    Inv-loop
-    μ-loop
-    loop-holds
-    staying-requires
-    returns
-    add-o
-    loop-less
-    loop-again
-    returns-2)
+first-spec = tie.close (tie.spec Inv-loop μ-loop loop-holds staying-requires returns (λ c. omega arith)
+    (λ c. omega arith) loop-again returns-2)

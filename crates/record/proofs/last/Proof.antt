@@ -24,9 +24,6 @@ returns c = (c .before .before .before .loop .inv, sym (c .before .staying .ensu
 sub-o : tie.Need-sub-o Inv-loop μ-loop
 sub-o c = omega (arith, down-room _ _ _ _ _ (c .before .before .before .before .before .pre .1) (c .before .before .loop-test .taken) (c .before .before .before .loop .inv))
 
-loop-less : tie.Need-loop-less Inv-loop μ-loop
-loop-less c = omega arith
-
 loop-again : tie.Need-loop-again Inv-loop μ-loop
 loop-again c = down-step _ _ _ _ _ (c .before .before .before .before .before .pre .1) (c .before .before .loop-test .taken) (c .before .before .before .loop .inv) (sym (c .before .staying .ensures) ∙ c .if1 .left)
 
@@ -36,15 +33,5 @@ returns-2 c =
     (c .before .loop .inv, ap (stays _ _) e ∙ c .before .before .before .pre .5)
 
 pub last-spec : {M : Type 1} → statement M
-last-spec =
-    tie.close
-    (tie.spec
-    Inv-loop
-    μ-loop
-    loop-holds
-    staying-requires
-    returns
-    sub-o
-    loop-less
-    loop-again
+last-spec = tie.close (tie.spec Inv-loop μ-loop loop-holds staying-requires returns sub-o (λ c. omega arith) loop-again
     returns-2)

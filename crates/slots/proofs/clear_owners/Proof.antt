@@ -21,12 +21,6 @@ set-owner-requires c κs =
     let flag = so .flag in
     (so .room, omega arith, omega arith, omega arith)
 
-add-o : tie.Need-add-o Inv-loop μ-loop
-add-o c = omega arith
-
-loop-less : tie.Need-loop-less Inv-loop μ-loop
-loop-less c = omega arith
-
 loop-again : tie.Need-loop-again Inv-loop μ-loop
 loop-again c =
     let so = c .before .before .before .before .before .loop .inv in
@@ -39,15 +33,5 @@ returns : tie.Need-returns Inv-loop μ-loop
 returns c = (rename-end _ _ _ _ (c .before .loop .inv) (c .loop-test .left), c .before .loop .inv .flag)
 
 pub clear-owners-spec : {M : Type 1} → statement M
-clear-owners-spec =
-    tie.close
-    (tie.spec
-    Inv-loop
-    μ-loop
-    loop-holds
-    set-owner-requires
-    add-o
-    loop-less
-    loop-again
-    same-length
-    returns)
+clear-owners-spec = tie.close (tie.spec Inv-loop μ-loop loop-holds set-owner-requires (λ c. omega arith)
+    (λ c. omega arith) loop-again same-length returns)

@@ -6,18 +6,9 @@ use borrow.Author.Needs.{needs}
 use Rattle.slots.proofs.get.Statement.{statement}
 use Rattle.slots.proofs.get.Tie as tie
 
-mul-decode : tie.Need-mul-decode
-mul-decode c = search needs
-
-add-decode : tie.Need-add-decode
-add-decode c = search needs
-
 decode-requires : tie.Need-decode-requires
 unfolding groupLength
 decode-requires c κs = search needs
-
-level-requires : tie.Need-level-requires
-level-requires c κs = search needs
 
 returns : tie.Need-returns
 unfolding slotOf slotRecord
@@ -26,4 +17,4 @@ returns c =
     (rw (c .level .ensures .0, held .0, getD-slotsOf _ _ (c .before .before .before .pre .1)), (c .level .ensures .1, held .1))
 
 pub get-spec : {M : Type 1} → statement M
-get-spec = tie.close (tie.spec mul-decode add-decode decode-requires level-requires returns)
+get-spec = tie.close (tie.spec (λ c. search needs) (λ c. search needs) decode-requires (λ c κs. search needs) returns)

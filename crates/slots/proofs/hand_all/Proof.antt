@@ -20,12 +20,6 @@ loop-holds c = rename-start _ _ (c .before .before .pre .0)
 owner-requires : tie.Need-owner-requires Inv-loop μ-loop
 owner-requires c κs = (c .before .before .loop .inv .room .0, omega arith)
 
-cast-handed : tie.Need-cast-handed Inv-loop μ-loop
-cast-handed c = omega arith
-
-shared-slice-read-handed : tie.Need-shared-slice-read-handed Inv-loop μ-loop
-shared-slice-read-handed c = omega arith
-
 handed-requires : tie.Need-handed-requires Inv-loop μ-loop
 handed-requires c κs =
     let start = c .before .before .before .before .before .before .before in
@@ -36,12 +30,6 @@ set-owner-requires c κs =
     let so = c .before .before .before .before .before .before .loop .inv in
     let flag = so .flag in
     (so .room, omega arith, omega arith, c .before .handed .ensures .1)
-
-add-o : tie.Need-add-o Inv-loop μ-loop
-add-o c = omega arith
-
-loop-less : tie.Need-loop-less Inv-loop μ-loop
-loop-less c = omega arith
 
 loop-again : tie.Need-loop-again Inv-loop μ-loop
 loop-again c =
@@ -57,19 +45,5 @@ returns : tie.Need-returns Inv-loop μ-loop
 returns c = rename-end _ _ _ _ (c .before .loop .inv) (c .loop-test .left)
 
 pub hand-all-spec : {M : Type 1} → statement M
-hand-all-spec =
-    tie.close
-    (tie.spec
-    Inv-loop
-    μ-loop
-    loop-holds
-    owner-requires
-    cast-handed
-    shared-slice-read-handed
-    handed-requires
-    set-owner-requires
-    add-o
-    loop-less
-    loop-again
-    same-length
-    returns)
+hand-all-spec = tie.close (tie.spec Inv-loop μ-loop loop-holds owner-requires (λ c. omega arith) (λ c. omega arith)
+    handed-requires set-owner-requires (λ c. omega arith) (λ c. omega arith) loop-again same-length returns)

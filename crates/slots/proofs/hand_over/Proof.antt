@@ -12,9 +12,6 @@ get-u16-requires : tie.Need-get-u16-requires
 unfolding groupLength
 get-u16-requires c κs = omega arith
 
-same-length : tie.Need-same-length
-same-length c = search needs
-
 returns : tie.Need-returns
 unfolding flagOf
 returns c =
@@ -27,13 +24,6 @@ hand-all-requires c κs =
     let start = c .before .before .before .before .before .before in
     (start .pre .0, omega (arith, c .before .before .get-u16 .ensures .0), start .pre .1, start .pre .2, start .pre .3)
 
-same-length-2 : tie.Need-same-length-2
-same-length-2 c = search needs
-
-returns-2 : tie.Need-returns-2
-returns-2 c = search needs
-
 pub hand-over-spec : {M : Type 1} → statement M
-hand-over-spec =
-    tie.close
-    (tie.spec get-u16-requires same-length returns hand-all-requires same-length-2 returns-2)
+hand-over-spec = tie.close (tie.spec get-u16-requires (λ c. search needs) returns hand-all-requires (λ c. search needs)
+    (λ c. search needs))

@@ -8,14 +8,8 @@ use borrow.Author.Needs.{needs}
 use Rattle.slots.proofs.handed.Statement.{statement}
 use Rattle.slots.proofs.handed.Tie as tie
 
-add-if1 : tie.Need-add-if1
-add-if1 c = search needs
-
 returns : tie.Need-returns
 returns c = (sym (handed-other _ _ _ _ (λ e. c .if1 .taken (e ∙ sym (add-one _)))), omega arith)
-
-add-result : tie.Need-add-result
-add-result c = search needs
 
 returns-2 : tie.Need-returns-2
 unfolding either
@@ -26,4 +20,4 @@ unfolding either
 returns-3 c = (sym (handed-named _ _ _ _ (c .before .if1 .left ∙ add-one _) ∙ rw (c .if2 .left, either)), omega arith)
 
 pub handed-spec : {M : Type 1} → statement M
-handed-spec = tie.close (tie.spec add-if1 returns add-result returns-2 returns-3)
+handed-spec = tie.close (tie.spec (λ c. search needs) returns (λ c. search needs) returns-2 returns-3)

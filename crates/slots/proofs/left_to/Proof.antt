@@ -22,26 +22,8 @@ loop-holds c = (c .before .before .before .pre .3, passed-start _ _)
 owner-requires : tie.Need-owner-requires Inv-loop μ-loop
 owner-requires c κs = (c .before .before .before .before .before .pre .0, c .loop-test .taken)
 
-cast-staying : tie.Need-cast-staying Inv-loop μ-loop
-cast-staying c = omega arith
-
-shared-slice-read-staying : tie.Need-shared-slice-read-staying Inv-loop μ-loop
-shared-slice-read-staying c = omega arith
-
 staying-requires : tie.Need-staying-requires Inv-loop μ-loop
 staying-requires c κs = c .before .before .before .before .before .before .before .pre .1
-
-cast-left : tie.Need-cast-left Inv-loop μ-loop
-cast-left c = omega arith
-
-slice-write-left : tie.Need-slice-write-left Inv-loop μ-loop
-slice-write-left c = omega arith
-
-add-o : tie.Need-add-o Inv-loop μ-loop
-add-o c = omega arith
-
-loop-less : tie.Need-loop-less Inv-loop μ-loop
-loop-less c = omega arith
 
 loop-again : tie.Need-loop-again Inv-loop μ-loop
 loop-again c =
@@ -56,20 +38,6 @@ returns : tie.Need-returns Inv-loop μ-loop
 returns c = (c .before .loop .inv .0, passed-end _ _ _ _ (c .before .loop .inv .1) (c .loop-test .left))
 
 pub left-to-spec : {M : Type 1} → statement M
-left-to-spec =
-    tie.close
-    (tie.spec
-    Inv-loop
-    μ-loop
-    loop-holds
-    owner-requires
-    cast-staying
-    shared-slice-read-staying
-    staying-requires
-    cast-left
-    slice-write-left
-    add-o
-    loop-less
-    loop-again
-    same-length
+left-to-spec = tie.close (tie.spec Inv-loop μ-loop loop-holds owner-requires (λ c. omega arith) (λ c. omega arith)
+    staying-requires (λ c. omega arith) (λ c. omega arith) (λ c. omega arith) (λ c. omega arith) loop-again same-length
     returns)

@@ -8,15 +8,6 @@ use borrow.Author.Needs.{needs}
 use Rattle.slots.proofs.level.Statement.{statement}
 use Rattle.slots.proofs.level.Tie as tie
 
-mul-get-u16 : tie.Need-mul-get-u16
-mul-get-u16 c = search needs
-
-add-get-u16 : tie.Need-add-get-u16
-add-get-u16 c = search needs
-
-add-get-u16-2 : tie.Need-add-get-u16-2
-add-get-u16-2 c = search needs
-
 get-u16-requires : tie.Need-get-u16-requires
 unfolding groupLength
 get-u16-requires c κs = search needs
@@ -28,4 +19,4 @@ returns c =
     (read .0 ∙ sym (ap (λ (s : Slot). s .level) (getD-slotsOf _ _ (c .before .before .pre .1))), read .1)
 
 pub level-spec : {M : Type 1} → statement M
-level-spec = tie.close (tie.spec mul-get-u16 add-get-u16 add-get-u16-2 get-u16-requires returns)
+level-spec = tie.close (tie.spec (λ c. search needs) (λ c. search needs) (λ c. search needs) get-u16-requires returns)

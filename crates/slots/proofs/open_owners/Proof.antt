@@ -13,9 +13,6 @@ get-u16-requires : tie.Need-get-u16-requires
 unfolding groupLength
 get-u16-requires c κs = omega arith
 
-same-length : tie.Need-same-length
-same-length c = search needs
-
 returns : tie.Need-returns
 unfolding flagOf
 returns c = ((c .before .before .before .before .pre .0, refl, λ o h. refl), omega (arith, c .before .get-u16 .ensures .0))
@@ -29,9 +26,6 @@ clear-owners-requires c κs =
     let after = flag-stored _ _ _ (c .before .before .before .before .before .before .before .before .before .pre) (omega arith) (c .before .before .before .put-u16 .ensures) in
     (after .0, omega (arith, after .2))
 
-same-length-2 : tie.Need-same-length-2
-same-length-2 c = search needs
-
 returns-2 : tie.Need-returns-2
 unfolding flagOf
 returns-2 c =
@@ -41,13 +35,5 @@ returns-2 c =
     opened _ _ _ none (after .1) (after .2) (done .0) (done .1)
 
 pub open-owners-spec : {M : Type 1} → statement M
-open-owners-spec =
-    tie.close
-    (tie.spec
-    get-u16-requires
-    same-length
-    returns
-    put-u16-requires
-    clear-owners-requires
-    same-length-2
-    returns-2)
+open-owners-spec = tie.close (tie.spec get-u16-requires (λ c. search needs) returns put-u16-requires
+    clear-owners-requires (λ c. search needs) returns-2)

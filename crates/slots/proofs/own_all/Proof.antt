@@ -20,12 +20,6 @@ loop-holds c = rename-start _ _ (c .before .before .pre .0)
 owner-requires : tie.Need-owner-requires Inv-loop μ-loop
 owner-requires c κs = (c .before .before .loop .inv .room .0, omega arith)
 
-cast-owned : tie.Need-cast-owned Inv-loop μ-loop
-cast-owned c = omega arith
-
-shared-slice-read-owned : tie.Need-shared-slice-read-owned Inv-loop μ-loop
-shared-slice-read-owned c = omega arith
-
 owned-requires : tie.Need-owned-requires Inv-loop μ-loop
 owned-requires c κs = (c .before .owner .ensures .1, c .before .before .before .before .before .before .before .pre .2)
 
@@ -34,12 +28,6 @@ set-owner-requires c κs =
     let so = c .before .before .before .before .before .before .loop .inv in
     let flag = so .flag in
     (so .room, omega arith, omega arith, c .before .owned .ensures .1)
-
-add-o : tie.Need-add-o Inv-loop μ-loop
-add-o c = omega arith
-
-loop-less : tie.Need-loop-less Inv-loop μ-loop
-loop-less c = omega arith
 
 loop-again : tie.Need-loop-again Inv-loop μ-loop
 loop-again c =
@@ -55,19 +43,5 @@ returns : tie.Need-returns Inv-loop μ-loop
 returns c = rename-end _ _ _ _ (c .before .loop .inv) (c .loop-test .left)
 
 pub own-all-spec : {M : Type 1} → statement M
-own-all-spec =
-    tie.close
-    (tie.spec
-    Inv-loop
-    μ-loop
-    loop-holds
-    owner-requires
-    cast-owned
-    shared-slice-read-owned
-    owned-requires
-    set-owner-requires
-    add-o
-    loop-less
-    loop-again
-    same-length
-    returns)
+own-all-spec = tie.close (tie.spec Inv-loop μ-loop loop-holds owner-requires (λ c. omega arith) (λ c. omega arith)
+    owned-requires set-owner-requires (λ c. omega arith) (λ c. omega arith) loop-again same-length returns)

@@ -6,9 +6,6 @@ use borrow.Author.Needs.{needs}
 use Rattle.slots.proofs.owned.Statement.{statement}
 use Rattle.slots.proofs.owned.Tie as tie
 
-add-result : tie.Need-add-result
-add-result c = search needs
-
 returns : tie.Need-returns
 unfolding takenBy either
 returns c = (rw (c .if1 .taken, add-one, either), omega arith)
@@ -18,4 +15,4 @@ unfolding takenBy either
 returns-2 c = (rw (c .if1 .left, either), omega arith)
 
 pub owned-spec : {M : Type 1} → statement M
-owned-spec = tie.close (tie.spec add-result returns returns-2)
+owned-spec = tie.close (tie.spec (λ c. search needs) returns returns-2)

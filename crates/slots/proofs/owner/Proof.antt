@@ -16,12 +16,6 @@ returns : tie.Need-returns
 unfolding flagOf
 returns c = (sym (owner-none _ _ (sym (c .before .get-u16 .ensures .0) ∙ c .if1 .taken)), omega arith)
 
-mul-get-u16 : tie.Need-mul-get-u16
-mul-get-u16 c = search needs
-
-add-get-u16 : tie.Need-add-get-u16
-add-get-u16 c = search needs
-
 get-u16-requires-2 : tie.Need-get-u16-requires-2
 unfolding groupLength
 get-u16-requires-2 c κs = search needs
@@ -34,6 +28,5 @@ returns-2 c =
     (entry .0 ∙ sym (owner-entry _ _ (λ e. c .before .if1 .left (flag ∙ e))), entry .1)
 
 pub owner-spec : {M : Type 1} → statement M
-owner-spec =
-    tie.close
-    (tie.spec get-u16-requires returns mul-get-u16 add-get-u16 get-u16-requires-2 returns-2)
+owner-spec = tie.close (tie.spec get-u16-requires returns (λ c. search needs) (λ c. search needs) get-u16-requires-2
+    returns-2)

@@ -30,21 +30,12 @@ level-requires c κs =
     let count = so .count in
     (so .room, omega arith)
 
-add-relevel : tie.Need-add-relevel Inv-loop μ-loop
-add-relevel c = omega arith
-
 relevel-requires : tie.Need-relevel-requires Inv-loop μ-loop
 relevel-requires c κs =
     let so = c .before .before .before .before .loop in
     let count = so .inv .0 .count in
     let low = so .inv .1 (so .j) (omega arith) (omega arith) in
     (so .inv .0 .room, omega arith, omega (arith, c .before .level .ensures .0))
-
-add-j : tie.Need-add-j Inv-loop μ-loop
-add-j c = omega arith
-
-loop-less : tie.Need-loop-less Inv-loop μ-loop
-loop-less c = omega arith
 
 loop-again : tie.Need-loop-again Inv-loop μ-loop
 loop-again c =
@@ -62,18 +53,5 @@ unfolding raiseFrom
 returns c = change-end _ _ _ _ _ _ (c .before .loop .inv .0) refl (c .loop-test .left)
 
 pub raise-spec : {M : Type 1} → statement M
-raise-spec =
-    tie.close
-    (tie.spec
-    Inv-loop
-    μ-loop
-    used-requires
-    loop-holds
-    level-requires
-    add-relevel
-    relevel-requires
-    add-j
-    loop-less
-    loop-again
-    same-length
-    returns)
+raise-spec = tie.close (tie.spec Inv-loop μ-loop used-requires loop-holds level-requires (λ c. omega arith)
+    relevel-requires (λ c. omega arith) (λ c. omega arith) loop-again same-length returns)

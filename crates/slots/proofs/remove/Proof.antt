@@ -6,25 +6,13 @@ use borrow.Author.Needs.{needs}
 use Rattle.slots.proofs.remove.Statement.{statement}
 use Rattle.slots.proofs.remove.Tie as tie
 
-used-requires : tie.Need-used-requires
-used-requires c κs = search needs
-
-cast-close-slot : tie.Need-cast-close-slot
-cast-close-slot c = search needs
-
 close-slot-requires : tie.Need-close-slot-requires
 unfolding groupLength
 close-slot-requires c κs = search needs
 
-sub-put-u16 : tie.Need-sub-put-u16
-sub-put-u16 c = search needs
-
 put-u16-requires : tie.Need-put-u16-requires
 unfolding groupLength
 put-u16-requires c κs = search needs
-
-same-length : tie.Need-same-length
-same-length c = search needs
 
 returns : tie.Need-returns
 returns c =
@@ -33,13 +21,5 @@ returns c =
     remove-shows _ _ _ _ _ (start .pre .0 .0) (n .0) (omega arith) (omega arith) (c .before .before .before .before .before .before .close-slot .ensures) (c .before .before .put-u16 .ensures)
 
 pub remove-spec : {M : Type 1} → statement M
-remove-spec =
-    tie.close
-    (tie.spec
-    used-requires
-    cast-close-slot
-    close-slot-requires
-    sub-put-u16
-    put-u16-requires
-    same-length
-    returns)
+remove-spec = tie.close (tie.spec (λ c κs. search needs) (λ c. search needs) close-slot-requires (λ c. search needs)
+    put-u16-requires (λ c. search needs) returns)

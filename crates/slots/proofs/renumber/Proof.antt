@@ -11,12 +11,9 @@ returns : tie.Need-returns
 unfolding renumbered
 returns c = (rw (eq-eqb _ _ (c .if1 .taken), renumbered), omega arith)
 
-add-result : tie.Need-add-result
-add-result c = search needs
-
 returns-2 : tie.Need-returns-2
 unfolding renumbered
 returns-2 c = (rw (ne-eqb _ _ (c .if1 .left), renumbered) (add-one _), omega arith)
 
 pub renumber-spec : {M : Type 1} → statement M
-renumber-spec = tie.close (tie.spec returns add-result returns-2)
+renumber-spec = tie.close (tie.spec returns (λ c. search needs) returns-2)

@@ -40,12 +40,6 @@ relevel-requires c κs =
     let count = so .count in
     (so .room, omega arith, omega (arith, so .room .1))
 
-add-k : tie.Need-add-k Inv-loop μ-loop
-add-k c = omega arith
-
-loop-less : tie.Need-loop-less Inv-loop μ-loop
-loop-less c = omega arith
-
 loop-again : tie.Need-loop-again Inv-loop μ-loop
 loop-again c =
     let so = c .before .before .before .before .before .before .before .before .loop .inv in
@@ -63,18 +57,5 @@ unfolding settle
 returns c = change-end _ _ _ _ _ _ (c .before .loop .inv .0) refl (c .loop-test .left)
 
 pub settle-spec : {M : Type 1} → statement M
-settle-spec =
-    tie.close
-    (tie.spec
-    Inv-loop
-    μ-loop
-    used-requires
-    loop-holds
-    level-requires
-    renumber-requires
-    relevel-requires
-    add-k
-    loop-less
-    loop-again
-    same-length
-    returns)
+settle-spec = tie.close (tie.spec Inv-loop μ-loop used-requires loop-holds level-requires renumber-requires
+    relevel-requires (λ c. omega arith) (λ c. omega arith) loop-again same-length returns)

@@ -6,9 +6,6 @@ use borrow.Author.Needs.{needs}
 use Rattle.slots.proofs.staying.Statement.{statement}
 use Rattle.slots.proofs.staying.Tie as tie
 
-add-if1 : tie.Need-add-if1
-add-if1 c = search needs
-
 returns : tie.Need-returns
 returns c = sym (left-other _ _ _ (λ e. c .if1 .taken (e ∙ sym (add-one _))))
 
@@ -19,4 +16,4 @@ returns-3 : tie.Need-returns-3
 returns-3 c = sym (left-named _ _ _ (c .before .if1 .left ∙ add-one _) ∙ rw (c .if2 .left))
 
 pub staying-spec : {M : Type 1} → statement M
-staying-spec = tie.close (tie.spec add-if1 returns returns-2 returns-3)
+staying-spec = tie.close (tie.spec (λ c. search needs) returns returns-2 returns-3)

@@ -5,9 +5,6 @@ use Rattle.spare.proofs.Sizes.{sizes, block-size}
 use Rattle.spare.proofs.entries_per_block.Statement.{statement}
 use Rattle.spare.proofs.entries_per_block.Tie as tie
 
-entries-per-page-requires : tie.Need-entries-per-page-requires
-entries-per-page-requires c κs = search needs
-
 mul-result : tie.Need-mul-result
 mul-result c = omega (arith, sizes _ (c .before .before .pre) .block, block-size _ _ (c .before .entries-per-page .ensures))
 
@@ -15,4 +12,4 @@ returns : tie.Need-returns
 returns c = block-size _ _ (c .before .entries-per-page .ensures)
 
 pub entries-per-block-spec : {M : Type 1} → statement M
-entries-per-block-spec = tie.close (tie.spec entries-per-page-requires mul-result returns)
+entries-per-block-spec = tie.close (tie.spec (λ c κs. search needs) mul-result returns)

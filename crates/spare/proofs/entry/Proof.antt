@@ -15,9 +15,6 @@ inside c = omega (arith, c .before .before .pre .1, entry-inside _ _ _ _ (c .ent
 small : (c : tie.After-entries-per-page) → length (c .before .before .args .spare .now) ≤ 32505856
 small c = omega (arith, c .before .before .pre .1, sizes _ (c .before .before .pre .0) .area)
 
-entries-per-page-requires : tie.Need-entries-per-page-requires
-entries-per-page-requires c κs = search needs
-
 mul-at : tie.Need-mul-at
 mul-at c = omega (arith, inside c, small c)
 
@@ -37,13 +34,5 @@ returns : tie.Need-returns
 returns c = entry-read _ _ _ _ _ (c .before .entries-per-page .ensures) (inside (c .before))
 
 pub entry-spec : {M : Type 1} → statement M
-entry-spec =
-    tie.close
-    (tie.spec
-    entries-per-page-requires
-    mul-at
-    add-at
-    cast-at
-    mul-result
-    shared-slice-read-result
+entry-spec = tie.close (tie.spec (λ c κs. search needs) mul-at add-at cast-at mul-result shared-slice-read-result
     returns)

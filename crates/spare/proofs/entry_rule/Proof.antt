@@ -15,18 +15,6 @@ returns c = rule-before _ _ _ _ (c .if1 .taken)
 add-y : tie.Need-add-y
 add-y c = let s = c .before .pre in omega (arith, s .1, s .2, sizes _ (s .0))
 
-sub-y : tie.Need-sub-y
-sub-y c = search needs
-
-cast-y : tie.Need-cast-y
-cast-y c = search needs
-
-mul-result : tie.Need-mul-result
-mul-result c = search needs
-
-shared-slice-read-result : tie.Need-shared-slice-read-result
-shared-slice-read-result c = search needs
-
 returns-2 : tie.Need-returns-2
 returns-2 c = rule-written _ _ _ _ (c .before .before .if1 .left) (c .before .if2 .taken)
 
@@ -34,15 +22,5 @@ returns-3 : tie.Need-returns-3
 returns-3 c = rule-behind _ _ _ _ (c .before .if1 .left) (c .if2 .left)
 
 pub entry-rule-spec : {M : Type 1} → statement M
-entry-rule-spec =
-    tie.close
-    (tie.spec
-    add-if1
-    returns
-    add-y
-    sub-y
-    cast-y
-    mul-result
-    shared-slice-read-result
-    returns-2
-    returns-3)
+entry-rule-spec = tie.close (tie.spec add-if1 returns add-y (λ c. search needs) (λ c. search needs) (λ c. search needs)
+    (λ c. search needs) returns-2 returns-3)

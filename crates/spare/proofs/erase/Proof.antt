@@ -16,17 +16,11 @@ inside c = omega (arith, c .before .before .pre .1, block-entries-inside _ _ _ (
 small : (c : tie.After-entries-per-block) → length (c .before .before .args .spare .now) ≤ 32505856
 small c = omega (arith, c .before .before .pre .1, sizes _ (c .before .before .pre .0) .area)
 
-entries-per-block-requires : tie.Need-entries-per-block-requires
-entries-per-block-requires c κs = search needs
-
 mul-a : tie.Need-mul-a
 mul-a c = omega (arith, inside c, small c)
 
 cast-a : tie.Need-cast-a
 cast-a c = omega (arith, inside c, small c)
-
-cast-e : tie.Need-cast-e
-cast-e c = search needs
 
 add-e : tie.Need-add-e
 add-e c = omega (arith, inside c, small c)
@@ -34,21 +28,9 @@ add-e c = omega (arith, inside c, small c)
 blank-requires : tie.Need-blank-requires
 blank-requires c κs = (omega arith, omega (arith, inside (c .before)))
 
-same-length : tie.Need-same-length
-same-length c = search needs
-
 returns : tie.Need-returns
 returns c = c .before .before .blank .ensures ∙ erase-fill _ _ _ _ (c .before .before .before .before .entries-per-block .ensures)
 
 pub erase-spec : {M : Type 1} → statement M
-erase-spec =
-    tie.close
-    (tie.spec
-    entries-per-block-requires
-    mul-a
-    cast-a
-    cast-e
-    add-e
-    blank-requires
-    same-length
-    returns)
+erase-spec = tie.close (tie.spec (λ c κs. search needs) mul-a cast-a (λ c. search needs) add-e blank-requires
+    (λ c. search needs) returns)

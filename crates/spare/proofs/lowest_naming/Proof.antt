@@ -36,12 +36,6 @@ returns : tie.Need-returns Inv-loop μ-loop
 unfolding namedOf
 returns c = sym (c .before .before .before .loop .inv .1 ∙ lowest-hit _ _ _ _ _ _ _ (c .before .names .ensures) (c .before .before .loop-test .taken) (c .if1 .taken))
 
-add-j : tie.Need-add-j Inv-loop μ-loop
-add-j c = omega arith
-
-loop-less : tie.Need-loop-less Inv-loop μ-loop
-loop-less c = omega arith
-
 loop-again : tie.Need-loop-again Inv-loop μ-loop
 loop-again c = (omega arith, c .before .before .before .loop .inv .1 ∙ lowest-miss _ _ _ _ _ _ _ (c .before .names .ensures) (c .before .before .loop-test .taken) (c .if1 .left))
 
@@ -50,18 +44,5 @@ unfolding namedOf
 returns-2 c = sym (c .before .loop .inv .1 ∙ lowest-end _ _ _ _ _ _ (c .loop-test .left))
 
 pub lowest-naming-spec : {M : Type 1} → statement M
-lowest-naming-spec =
-    tie.close
-    (tie.spec
-    Inv-loop
-    μ-loop
-    entries-per-page-requires
-    loop-holds
-    names-requires
-    add-q
-    sub-q
-    returns
-    add-j
-    loop-less
-    loop-again
-    returns-2)
+lowest-naming-spec = tie.close (tie.spec Inv-loop μ-loop entries-per-page-requires loop-holds names-requires add-q sub-q
+    returns (λ c. omega arith) (λ c. omega arith) loop-again returns-2)

@@ -6,18 +6,12 @@ use Rattle.spare.proofs.Naming.{named-predicted, named-near}
 use Rattle.spare.proofs.page_named.Statement.{statement}
 use Rattle.spare.proofs.page_named.Tie as tie
 
-middle-requires : tie.Need-middle-requires
-middle-requires c κs = search needs
-
 returns : tie.Need-returns
 unfolding namedOf
 returns c = named-predicted _ _ _ _ _ (c .before .middle .ensures) (c .if1 .taken)
-
-lowest-naming-requires : tie.Need-lowest-naming-requires
-lowest-naming-requires c κs = search needs
 
 returns-2 : tie.Need-returns-2
 returns-2 c = c .lowest-naming .ensures ∙ named-near _ _ _ _ _ (c .before .before .middle .ensures) (c .before .if1 .left)
 
 pub page-named-spec : {M : Type 1} → statement M
-page-named-spec = tie.close (tie.spec middle-requires returns lowest-naming-requires returns-2)
+page-named-spec = tie.close (tie.spec (λ c κs. search needs) returns (λ c κs. search needs) returns-2)

@@ -5,17 +5,8 @@ use Rattle.spare.proofs.Programming.{block-programmed}
 use Rattle.spare.proofs.program_block.Statement.{statement}
 use Rattle.spare.proofs.program_block.Tie as tie
 
-erase-requires : tie.Need-erase-requires
-erase-requires c κs = search needs
-
-program-pages-requires : tie.Need-program-pages-requires
-program-pages-requires c κs = search needs
-
-same-length : tie.Need-same-length
-same-length c = search needs
-
 returns : tie.Need-returns
 returns c = c .before .before .program-pages .ensures ∙ block-programmed _ _ _ _ _ (c .before .before .before .before .before .before .erase .ensures)
 
 pub program-block-spec : {M : Type 1} → statement M
-program-block-spec = tie.close (tie.spec erase-requires program-pages-requires same-length returns)
+program-block-spec = tie.close (tie.spec (λ c κs. search needs) (λ c κs. search needs) (λ c. search needs) returns)

@@ -59,39 +59,13 @@ mul-spare c = omega (arith, inside (c .before .before .before), small (c .before
 slice-write-spare : tie.Need-slice-write-spare Inv-loop μ-loop
 slice-write-spare c = omega (arith, inside (c .before .before .before))
 
-add-e : tie.Need-add-e Inv-loop μ-loop
-add-e c = omega arith
-
-loop-less : tie.Need-loop-less Inv-loop μ-loop
-loop-less c = omega arith
-
 loop-again : tie.Need-loop-again Inv-loop μ-loop
 loop-again c = (omega arith, simp length-set (omega arith), c .before .before .loop .inv .2 ∙ page-turn _ _ _ _ _ _ _ _ (c .entry-rule .ensures) (c .before .loop-test .taken))
-
-same-length : tie.Need-same-length Inv-loop μ-loop
-same-length c = omega arith
 
 returns : tie.Need-returns Inv-loop μ-loop
 returns c = sym (c .before .loop .inv .2 ∙ page-end _ _ _ _ _ _ _ (c .loop-test .left))
 
 pub program-page-spec : {M : Type 1} → statement M
-program-page-spec =
-    tie.close
-    (tie.spec
-    Inv-loop
-    μ-loop
-    entries-per-page-requires
-    mul-a
-    add-a
-    mul-a-2
-    loop-holds
-    add-at
-    cast-at
-    entry-rule-requires
-    mul-spare
-    slice-write-spare
-    add-e
-    loop-less
-    loop-again
-    same-length
-    returns)
+program-page-spec = tie.close (tie.spec Inv-loop μ-loop entries-per-page-requires mul-a add-a mul-a-2 loop-holds add-at
+    cast-at entry-rule-requires mul-spare slice-write-spare (λ c. omega arith) (λ c. omega arith) loop-again
+    (λ c. omega arith) returns)

@@ -28,32 +28,12 @@ cast-program-page c = let s = c .before .before .before .before .before .pre in 
 program-page-requires : tie.Need-program-page-requires Inv-loop μ-loop
 program-page-requires c κs = let s = c .before .before .before .before .before .pre in (s .0, c .before .before .loop .inv .1 ∙ s .1, omega (arith, s .2), omega arith)
 
-add-i : tie.Need-add-i Inv-loop μ-loop
-add-i c = omega arith
-
-loop-less : tie.Need-loop-less Inv-loop μ-loop
-loop-less c = omega arith
-
 loop-again : tie.Need-loop-again Inv-loop μ-loop
 loop-again c = (omega arith, omega (arith, c .before .before .program-page .kept .0), c .before .before .before .before .before .loop .inv .2 ∙ pages-turn _ _ _ _ _ _ _ (c .before .before .program-page .ensures) (c .before .before .before .before .loop-test .taken))
-
-same-length : tie.Need-same-length Inv-loop μ-loop
-same-length c = omega arith
 
 returns : tie.Need-returns Inv-loop μ-loop
 returns c = sym (c .before .loop .inv .2 ∙ pages-end _ _ _ _ _ _ (c .loop-test .left))
 
 pub program-pages-spec : {M : Type 1} → statement M
-program-pages-spec =
-    tie.close
-    (tie.spec
-    Inv-loop
-    μ-loop
-    loop-holds
-    cast-program-page
-    program-page-requires
-    add-i
-    loop-less
-    loop-again
-    same-length
-    returns)
+program-pages-spec = tie.close (tie.spec Inv-loop μ-loop loop-holds cast-program-page program-page-requires
+    (λ c. omega arith) (λ c. omega arith) loop-again (λ c. omega arith) returns)

@@ -5,9 +5,6 @@ use Rattle.spare.proofs.Sizes.{sizes, area-size}
 use Rattle.spare.proofs.spare_len.Statement.{statement}
 use Rattle.spare.proofs.spare_len.Tie as tie
 
-entries-per-block-requires : tie.Need-entries-per-block-requires
-entries-per-block-requires c κs = search needs
-
 mul-result : tie.Need-mul-result
 mul-result c = omega (arith, sizes _ (c .before .before .pre) .area, area-size _ _ (c .before .entries-per-block .ensures))
 
@@ -18,4 +15,4 @@ returns : tie.Need-returns
 returns c = area-size _ _ (c .before .entries-per-block .ensures)
 
 pub spare-len-spec : {M : Type 1} → statement M
-spare-len-spec = tie.close (tie.spec entries-per-block-requires mul-result cast-result returns)
+spare-len-spec = tie.close (tie.spec (λ c κs. search needs) mul-result cast-result returns)

@@ -38,12 +38,6 @@ cast-page c = omega (arith, pages-inside _ _ _ (c .before .before .before .befor
 add-page : tie.Need-add-page Inv-loop μ-loop
 add-page c = omega (arith, pages-inside _ _ _ (c .before .before .before .before .before .pre .0) (c .before .before .before .before .loop .run) (c .before .before .before .loop-test .taken), c .before .before .before .before .loop .inv .0)
 
-add-run : tie.Need-add-run Inv-loop μ-loop
-add-run c = omega arith
-
-loop-less : tie.Need-loop-less Inv-loop μ-loop
-loop-less c = omega arith
-
 loop-again : tie.Need-loop-again Inv-loop μ-loop
 loop-again c = let so = c .before .before .before .before .loop .inv in (place-moves _ _ _ _ (so .0) refl, own-more _ _ _ _ _ _ (so .1) _ (so .0) (c .before .before .before .loop-test .taken) (omega (arith, c .before .if1 .left)))
 
@@ -51,20 +45,5 @@ returns-2 : tie.Need-returns-2 Inv-loop μ-loop
 returns-2 c = let so = c .before .loop .inv in (own-last _ _ _ _ _ _ (so .1) (c .loop-test .left), so .0)
 
 pub end-of-spec : {M : Type 1} → statement M
-end-of-spec =
-    tie.close
-    (tie.spec
-    Inv-loop
-    μ-loop
-    loop-holds
-    mul-if1
-    shared-slice-read-if1
-    returns
-    mul-page
-    shared-slice-read-page
-    cast-page
-    add-page
-    add-run
-    loop-less
-    loop-again
-    returns-2)
+end-of-spec = tie.close (tie.spec Inv-loop μ-loop loop-holds mul-if1 shared-slice-read-if1 returns mul-page
+    shared-slice-read-page cast-page add-page (λ c. omega arith) (λ c. omega arith) loop-again returns-2)

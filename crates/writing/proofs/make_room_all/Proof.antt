@@ -47,14 +47,5 @@ returns c =
     subst (λ (m : ℕ). Roomed (c .before .before .before .before .before .before .args .d .n) (c .before .before .before .before .before .before .args .written .now) (c .before .before .before .before .before .before .args .taken .now) (c .before .before .before .before .before .before .args .n) (readState (c .before .before .before .before .before .before .args .state .now)) (readState (c .before .before .loop .state)) 0 m) e (so .3)
 
 pub make-room-all-spec : {M : Type 1} → statement M
-make-room-all-spec =
-    tie.close
-    (tie.spec
-    Inv-loop
-    μ-loop
-    loop-holds
-    make-room-next-requires
-    loop-less
-    loop-again
-    same-length
-    returns)
+make-room-all-spec = tie.close (tie.spec Inv-loop μ-loop loop-holds make-room-next-requires loop-less loop-again
+    same-length returns)

@@ -11,39 +11,15 @@ use Rattle.writing.proofs.make_room_in.Tie as tie
 part : (c : tie.After-group-end) → Lent (c .before .before .before .args .state .now) (c .before .before .before .args .k) (c .before .group-place .result) (c .group-end .result)
 part c = let pre = c .before .before .before .pre in lent _ _ (pre .0) _ _ _ (pre .1) (c .before .group-place .ensures) (c .group-end .ensures)
 
-group-place-requires : tie.Need-group-place-requires
-group-place-requires c κs = search needs
-
-group-end-requires : tie.Need-group-end-requires
-group-end-requires c κs = search needs
-
-sub-make-room : tie.Need-sub-make-room
-sub-make-room c = search needs
-
-part-make-room-start : tie.Need-part-make-room-start
-part-make-room-start c = search needs
-
 part-make-room-end : tie.Need-part-make-room-end
 part-make-room-end c = omega (arith, part c .inside)
 
 make-room-requires : tie.Need-make-room-requires
 make-room-requires c κs = let pre = c .before .before .before .before .pre in (part-fits _ _ (pre .0) _ _ _ (pre .1) (c .before .before .group-place .ensures) (c .before .group-end .ensures) (pre .2), pre .3)
 
-same-length : tie.Need-same-length
-same-length c = search needs
-
 returns : tie.Need-returns
 returns c = let pre = c .before .before .before .before .before .before .before .pre in part-done _ _ (pre .0) _ _ _ (pre .1) (c .before .before .before .before .before .group-place .ensures) (c .before .before .before .before .group-end .ensures) (room (c .before .before .before .before .before .before .before .args .n)) _ (c .before .before .make-room .kept .0) (c .before .before .make-room .ensures)
 
 pub make-room-in-spec : {M : Type 1} → statement M
-make-room-in-spec =
-    tie.close
-    (tie.spec
-    group-place-requires
-    group-end-requires
-    sub-make-room
-    part-make-room-start
-    part-make-room-end
-    make-room-requires
-    same-length
-    returns)
+make-room-in-spec = tie.close (tie.spec (λ c κs. search needs) (λ c κs. search needs) (λ c. search needs)
+    (λ c. search needs) part-make-room-end make-room-requires (λ c. search needs) returns)

@@ -29,21 +29,12 @@ mul-k c = let pre = c .before .before .before .pre in omega (arith, page-inside 
 shared-slice-read-k : tie.Need-shared-slice-read-k
 shared-slice-read-k c = let pre = c .before .before .before .before .pre in omega (arith, page-inside _ _ _ (pre .1 .0 .counted) _ (pre .1 .1), pre .1 .2)
 
-end-of-requires : tie.Need-end-of-requires
-end-of-requires c κs = search needs
-
-sub-own : tie.Need-sub-own
-sub-own c = search needs
-
 make-room-in-requires : tie.Need-make-room-in-requires
 make-room-in-requires c κs =
     let state = c .before .before .before .before .before .before .before .before .pre .0 in
     let sorted = c .before .before .before .before .before .before .before .before .pre .1 .0 in
     let e = c .before .before .before .end-of .ensures .0 in
     (state .0, exists (c .before .before .before), state-sound _ _ _ (state .1), omega (arith, e .own .to, sorted .few))
-
-same-length : tie.Need-same-length
-same-length c = search needs
 
 returns : tie.Need-returns
 returns c =
@@ -54,13 +45,5 @@ returns c =
     (ends-on _ _ _ _ _ _ (sorted .counted) (sorted .ascends) inside (here (c .before .before .before .before .before .before)) e, e .own .to, c .before .before .before .before .before .before .end-of .ensures .1, roomed-own _ _ _ _ _ _ (sorted .counted) (sorted .ascends) inside (here (c .before .before .before .before .before .before)) e _ _ _ (state .1) (omega (arith, exists (c .before .before .before .before .before .before), length-groups _ _ (state .0))) (c .before .before .make-room-in .ensures))
 
 pub make-room-next-spec : {M : Type 1} → statement M
-make-room-next-spec =
-    tie.close
-    (tie.spec
-    mul-k
-    shared-slice-read-k
-    end-of-requires
-    sub-own
-    make-room-in-requires
-    same-length
-    returns)
+make-room-next-spec = tie.close (tie.spec mul-k shared-slice-read-k (λ c κs. search needs) (λ c. search needs)
+    make-room-in-requires (λ c. search needs) returns)

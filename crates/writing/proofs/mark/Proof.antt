@@ -12,29 +12,11 @@ Inv-loop mask₀ written at n end i₀ mask i = Marking written at end mask i
 abbrev μ-loop : tie.MeasureT-loop
 μ-loop mask₀ written at n end i₀ mask i = end - i
 
-add-end : tie.Need-add-end Inv-loop μ-loop
-add-end c = omega arith
-
 loop-holds : tie.Need-loop-holds Inv-loop μ-loop
 loop-holds c = marking-start _ _ _ _ (c .pre .0) (c .pre .1) (omega arith)
 
-mul-o : tie.Need-mul-o Inv-loop μ-loop
-mul-o c = omega arith
-
-shared-slice-read-o : tie.Need-shared-slice-read-o Inv-loop μ-loop
-shared-slice-read-o c = omega arith
-
-cast-mask : tie.Need-cast-mask Inv-loop μ-loop
-cast-mask c = omega arith
-
 slice-write-mask : tie.Need-slice-write-mask Inv-loop μ-loop
 slice-write-mask c = omega (arith, c .before .before .loop .inv .long)
-
-add-i : tie.Need-add-i Inv-loop μ-loop
-add-i c = omega arith
-
-loop-less : tie.Need-loop-less Inv-loop μ-loop
-loop-less c = omega arith
 
 loop-again : tie.Need-loop-again Inv-loop μ-loop
 loop-again c = marking-turn _ _ _ _ _ (c .before .before .loop .inv) (c .before .loop-test .taken) (c .before .before .before .pre .2)
@@ -46,19 +28,5 @@ returns : tie.Need-returns Inv-loop μ-loop
 returns c = marking-end _ _ _ _ _ (c .before .loop .inv) (c .loop-test .left) _ refl
 
 pub mark-spec : {M : Type 1} → statement M
-mark-spec =
-    tie.close
-    (tie.spec
-    Inv-loop
-    μ-loop
-    add-end
-    loop-holds
-    mul-o
-    shared-slice-read-o
-    cast-mask
-    slice-write-mask
-    add-i
-    loop-less
-    loop-again
-    same-length
-    returns)
+mark-spec = tie.close (tie.spec Inv-loop μ-loop (λ c. omega arith) loop-holds (λ c. omega arith) (λ c. omega arith)
+    (λ c. omega arith) slice-write-mask (λ c. omega arith) (λ c. omega arith) loop-again same-length returns)

@@ -19,38 +19,15 @@ put-in-group-requires c κs =
     let pre = c .before .before .before .before .before .pre in
     ((pre .0 .counted, pre .1, pre .0 .members), ready-here (numbersOf (c .before .before .before .before .before .args .d)) _ _ _ _ _ _ (pre .1) (pre .0))
 
-add-t10 : tie.Need-add-t10
-add-t10 c = search needs
-
-mul-t16 : tie.Need-mul-t16
-mul-t16 c = search needs
-
-shared-slice-read-t12 : tie.Need-shared-slice-read-t12
-shared-slice-read-t12 c = search needs
-
 cast-t18 : tie.Need-cast-t18
 cast-t18 c = omega (arith, pages-inside _ _ _ (c .before .before .before .before .before .before .before .before .before .pre .0 .counted) (c .before .before .before .before .before .before .before .before .before .args .p .run) (omega arith))
 
 add-t19 : tie.Need-add-t19
 add-t19 c = omega (arith, pages-inside _ _ _ (c .before .before .before .before .before .before .before .before .before .pre .0 .counted) (c .before .before .before .before .before .before .before .before .before .args .p .run) (omega arith), c .before .before .before .before .before .before .before .before .before .pre .1)
 
-same-length : tie.Need-same-length
-same-length c = search needs
-
 returns : tie.Need-returns
 returns c = let pre = c .before .before .before .before .before .before .before .before .before .pre in (omega arith, place-moves _ _ _ _ (pre .1) refl, inserted-here (numbersOf (c .before .before .before .before .before .before .before .before .before .args .d)) _ _ _ _ _ _ (pre .1) _ (c .before .before .before .put-in-group .ensures))
 
 pub put-in-run-spec : {M : Type 1} → statement M
-put-in-run-spec =
-    tie.close
-    (tie.spec
-    mul-k
-    shared-slice-read-k
-    put-in-group-requires
-    add-t10
-    mul-t16
-    shared-slice-read-t12
-    cast-t18
-    add-t19
-    same-length
-    returns)
+put-in-run-spec = tie.close (tie.spec mul-k shared-slice-read-k put-in-group-requires (λ c. search needs)
+    (λ c. search needs) (λ c. search needs) cast-t18 add-t19 (λ c. search needs) returns)

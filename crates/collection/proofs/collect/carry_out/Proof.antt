@@ -17,9 +17,6 @@ use Rattle.collection.proofs.Clearing.{written-shape, collection-left, 
 use Rattle.collection.proofs.collect.carry_out.Statement.{statement}
 use Rattle.collection.proofs.collect.carry_out.Tie as tie
 
-write-moves-requires : tie.Need-write-moves-requires
-write-moves-requires c κs = search needs
-
 erase-blocks-requires : tie.Need-erase-blocks-requires
 erase-blocks-requires c κs =
     let pre = c .before .before .before .before .before .before .before .before .before .before .before .before .before .before .before .before .before .before .before .pre in
@@ -47,18 +44,6 @@ cast-t24 c =
 cast-t26 : tie.Need-cast-t26
 cast-t26 c = omega (arith, few (c .before .before .before .before .before .before .before .before .before .before .before .before .before .before .before .before .before .before .before .before .before .before .before .before .before .before .before .before), limits _ (c .before .before .before .before .before .before .before .before .before .before .before .before .before .before .before .before .before .before .before .before .before .before .before .before .before .before .before .before .pre .0 .0 .shape .limits) .most-M)
 
-same-length : tie.Need-same-length
-same-length c = search needs
-
-same-length-2 : tie.Need-same-length-2
-same-length-2 c = search needs
-
-same-length-3 : tie.Need-same-length-3
-same-length-3 c = search needs
-
-same-length-4 : tie.Need-same-length-4
-same-length-4 c = search needs
-
 returns : tie.Need-returns
 unfolding collectAnswer
 returns c =
@@ -71,16 +56,5 @@ returns c =
     )
 
 pub carry-out-spec : {M : Type 1} → statement M
-carry-out-spec =
-    tie.close
-    (tie.spec
-    write-moves-requires
-    erase-blocks-requires
-    store-front-requires
-    cast-t24
-    cast-t26
-    same-length
-    same-length-2
-    same-length-3
-    same-length-4
-    returns)
+carry-out-spec = tie.close (tie.spec (λ c κs. search needs) erase-blocks-requires store-front-requires cast-t24 cast-t26
+    (λ c. search needs) (λ c. search needs) (λ c. search needs) (λ c. search needs) returns)

@@ -26,15 +26,6 @@ shape c = answered-device _ _ _ (c .before .before .before .check-state .ensures
 fits : (c : tie.Else1) → length (c .before .before .before .before .before .before .before .before .before .before .args .spare .now) ≡ spareLength (held (c .before .before))
 fits c = c .if1 .left ∙ c .before .spare-len .ensures
 
-check-state-requires : tie.Need-check-state-requires
-check-state-requires c κs = search needs
-
-enum-known-opened : tie.Need-enum-known-opened
-enum-known-opened c = search needs
-
-enum-known-opened-2 : tie.Need-enum-known-opened-2
-enum-known-opened-2 c = search needs
-
 returns : tie.Need-returns
 unfolding Admits
 returns c = closed _ _ _ _ _ (answered-refusal _ _ _ (c .before .before .before .check-state .ensures) (c .before .opened2 .given .1))
@@ -46,15 +37,9 @@ returns-2 : tie.Need-returns-2
 unfolding Admits refusalOf
 returns-2 c = bad-spare _ _ _ _ _ (shape (c .before .before)) (λ e. c .if1 .taken (e ∙ sym (c .before .spare-len .ensures)))
 
-cast-if2 : tie.Need-cast-if2
-cast-if2 c = search needs
-
 returns-3 : tie.Need-returns-3
 unfolding Admits refusalOf
 returns-3 c = bad-plan _ _ _ _ _ (shape (c .before .before .before .before)) (fits (c .before .before)) (c .if2 .taken)
-
-cast-if3 : tie.Need-cast-if3
-cast-if3 c = search needs
 
 returns-4 : tie.Need-returns-4
 unfolding Admits refusalOf
@@ -78,19 +63,6 @@ returns-6 c = (
 )
 
 pub check-spec : {M : Type 1} → statement M
-check-spec =
-    tie.close
-    (tie.spec
-    check-state-requires
-    enum-known-opened
-    enum-known-opened-2
-    returns
-    spare-len-requires
-    returns-2
-    cast-if2
-    returns-3
-    cast-if3
-    returns-4
-    sound-requires
-    returns-5
+check-spec = tie.close (tie.spec (λ c κs. search needs) (λ c. search needs) (λ c. search needs) returns
+    spare-len-requires returns-2 (λ c. search needs) returns-3 (λ c. search needs) returns-4 sound-requires returns-5
     returns-6)

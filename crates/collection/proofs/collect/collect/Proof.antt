@@ -77,33 +77,9 @@ from c =
 gains : (c : tie.After-no-gain) → c .no-gain .result ≡ noGain (victims (readState (c .before .before .before .before .before .before .before .before .before .before .before .before .before .before .before .before .before .before .before .before .before .before .before .before .before .before .args .state .now)) (c .before .before .before .before .before .before .before .before .before .before .before .before .before .before .before .before .before .before .before .before .before .before .before .before .before .before .args .spare .now))
 gains c = c .no-gain .ensures _ (c .before .before .before .before .before .before .before .before .before .before .taken .ensures .0) (c .before .before .before .moves .ensures .0 ∙ moves-count _ _)
 
-check-requires : tie.Need-check-requires
-check-requires c κs = search needs
-
-enum-known-checked : tie.Need-enum-known-checked
-enum-known-checked c = search needs
-
-enum-known-checked-2 : tie.Need-enum-known-checked-2
-enum-known-checked-2 c = search needs
-
-same-length : tie.Need-same-length
-same-length c = search needs
-
-same-length-2 : tie.Need-same-length-2
-same-length-2 c = search needs
-
-same-length-3 : tie.Need-same-length-3
-same-length-3 c = search needs
-
-same-length-4 : tie.Need-same-length-4
-same-length-4 c = search needs
-
 returns : tie.Need-returns
 unfolding collectAnswer
 returns c = refuses _ _ _ _ _ (refused-first _ _ _ (c .before .before .before .check .ensures) (c .before .checked2 .given .1))
-
-slice-aggregate-taken : tie.Need-slice-aggregate-taken
-slice-aggregate-taken c = search needs
 
 taken-requires : tie.Need-taken-requires
 taken-requires c κs = (passed (c .before .before .before) .0, omega arith)
@@ -114,29 +90,8 @@ array-share-prefix-order c = omega (arith, counted (c .before .before .before), 
 slice-aggregate-moves : tie.Need-slice-aggregate-moves
 slice-aggregate-moves c = sym (length-take-le _ (c .before .before .before .before .taken .last .1 .1 .1 .0) (omega (arith, counted (c .before .before .before .before), few (c .before .before .before .before), taken-long (c .before .before .before .before))))
 
-slice-aggregate-moves-2 : tie.Need-slice-aggregate-moves-2
-slice-aggregate-moves-2 c = search needs
-
-slice-aggregate-moves-3 : tie.Need-slice-aggregate-moves-3
-slice-aggregate-moves-3 c = search needs
-
 moves-requires : tie.Need-moves-requires
 moves-requires c κs = (passed (c .before .before .before .before .before .before .before .before .before .before) .0, chosen (c .before .before .before .before .before .before), omega arith, omega arith)
-
-no-gain-requires : tie.Need-no-gain-requires
-no-gain-requires c κs = search needs
-
-same-length-5 : tie.Need-same-length-5
-same-length-5 c = search needs
-
-same-length-6 : tie.Need-same-length-6
-same-length-6 c = search needs
-
-same-length-7 : tie.Need-same-length-7
-same-length-7 c = search needs
-
-same-length-8 : tie.Need-same-length-8
-same-length-8 c = search needs
 
 returns-2 : tie.Need-returns-2
 unfolding collectAnswer refusalOf
@@ -146,18 +101,6 @@ returns-2 c =
 
 no-block-requires : tie.Need-no-block-requires
 no-block-requires c κs = passed (c .before .before .before .before .before .before .before .before .before .before .before .before .before .before .before .before) .0 .shape
-
-same-length-9 : tie.Need-same-length-9
-same-length-9 c = search needs
-
-same-length-10 : tie.Need-same-length-10
-same-length-10 c = search needs
-
-same-length-11 : tie.Need-same-length-11
-same-length-11 c = search needs
-
-same-length-12 : tie.Need-same-length-12
-same-length-12 c = search needs
 
 returns-3 : tie.Need-returns-3
 unfolding collectAnswer refusalOf
@@ -188,18 +131,6 @@ carry-out-requires c κs =
     let checks = passed (c .before .before .before .before .before .before .before .before .before .before .before .before .before .before .before .before .before .before .before .before .before .before .before .before .before) in
     ((checks .0, checks .1, checks .2), (named (c .before .before .before .before .before .before .before .before .before .before .before .before .before .before), from (c .before .before .before .before .before .before .before .before .before .before .before .before .before .before), chosen (c .before .before .before .before .before .before .before .before .before .before .before .before .before .before .before .before .before .before .before .before .before)))
 
-same-length-13 : tie.Need-same-length-13
-same-length-13 c = search needs
-
-same-length-14 : tie.Need-same-length-14
-same-length-14 c = search needs
-
-same-length-15 : tie.Need-same-length-15
-same-length-15 c = search needs
-
-same-length-16 : tie.Need-same-length-16
-same-length-16 c = search needs
-
 returns-4 : tie.Need-returns-4
 returns-4 c =
     let checks = passed (c .before .before .before .before .before .before .before .before .before .before .before .before .before .before .before .before .before .before .before .before .before .before .before .before .before .before .before .before .before .before .before .before .before .before) in
@@ -207,45 +138,11 @@ returns-4 c =
     collects _ _ _ _ _ (checks .0) (checks .1) (checks .2) (sym (gains (c .before .before .before .before .before .before .before .before .before .before .before .before .before .before .before .before .before .before .before .before)) ∙ c .before .before .before .before .before .before .before .before .before .before .before .before .before .before .before .before .before .before .before .if1 .left) _ (c .before .before .before .before .before .before .before .before .before .before .before .before .before .before .before .before .before .before .before .before .before .before .before .moves .ensures .0) (sym (c .before .before .before .before .before .before .before .before .before .before .before .before .before .before .before .before .before .no-block .ensures) ∙ c .before .before .before .before .before .before .before .before .before .before .before .before .before .before .before .before .if2 .left) _ _ _ _ _ (made .0) (made .1)
 
 pub collect-spec : {M : Type 1} → statement M
-collect-spec =
-    tie.close
-    (tie.spec
-    check-requires
-    enum-known-checked
-    enum-known-checked-2
-    same-length
-    same-length-2
-    same-length-3
-    same-length-4
-    returns
-    slice-aggregate-taken
-    taken-requires
-    array-share-prefix-order
-    slice-aggregate-moves
-    slice-aggregate-moves-2
-    slice-aggregate-moves-3
-    moves-requires
-    no-gain-requires
-    same-length-5
-    same-length-6
-    same-length-7
-    same-length-8
-    returns-2
-    no-block-requires
-    same-length-9
-    same-length-10
-    same-length-11
-    same-length-12
-    returns-3
-    array-share-prefix-pages
-    slice-aggregate-carry-out
-    array-share-prefix-sources
-    slice-aggregate-carry-out-2
-    array-share-prefix-order-2
-    slice-aggregate-carry-out-3
-    carry-out-requires
-    same-length-13
-    same-length-14
-    same-length-15
-    same-length-16
-    returns-4)
+collect-spec = tie.close (tie.spec (λ c κs. search needs) (λ c. search needs) (λ c. search needs) (λ c. search needs)
+    (λ c. search needs) (λ c. search needs) (λ c. search needs) returns (λ c. search needs) taken-requires
+    array-share-prefix-order slice-aggregate-moves (λ c. search needs) (λ c. search needs) moves-requires
+    (λ c κs. search needs) (λ c. search needs) (λ c. search needs) (λ c. search needs) (λ c. search needs) returns-2
+    no-block-requires (λ c. search needs) (λ c. search needs) (λ c. search needs) (λ c. search needs) returns-3
+    array-share-prefix-pages slice-aggregate-carry-out array-share-prefix-sources slice-aggregate-carry-out-2
+    array-share-prefix-order-2 slice-aggregate-carry-out-3 carry-out-requires (λ c. search needs) (λ c. search needs)
+    (λ c. search needs) (λ c. search needs) returns-4)

@@ -7,11 +7,8 @@ use Rattle.collection.proofs.collect.no_block.Tie as tie
 returns : tie.Need-returns
 returns c = block-unneeded _ _ (c .if1 .taken)
 
-free-count-requires : tie.Need-free-count-requires
-free-count-requires c κs = search needs
-
 returns-2 : tie.Need-returns-2
 returns-2 c = block-needed _ _ (c .before .if1 .left) _ (c .free-count .ensures)
 
 pub no-block-spec : {M : Type 1} → statement M
-no-block-spec = tie.close (tie.spec returns free-count-requires returns-2)
+no-block-spec = tie.close (tie.spec returns (λ c κs. search needs) returns-2)

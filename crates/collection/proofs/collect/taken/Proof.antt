@@ -15,12 +15,6 @@ use Rattle.collection.proofs.Gathering.{front}
 use Rattle.collection.proofs.collect.taken.Statement.{statement}
 use Rattle.collection.proofs.collect.taken.Tie as tie
 
-cast-m : tie.Need-cast-m
-cast-m c = search needs
-
-slice-aggregate-tally-all : tie.Need-slice-aggregate-tally-all
-slice-aggregate-tally-all c = search needs
-
 tally-all-requires : tie.Need-tally-all-requires
 tally-all-requires c κs = (c .before .before .before .before .before .pre .0, limits _ (c .before .before .before .before .before .pre .0 .shape .limits) .most-M)
 
@@ -42,9 +36,6 @@ choose-requires c κs =
     let most = limits _ (c .before .before .before .before .before .before .before .before .before .pre .0 .shape .limits) in
     (omega (arith, counted (c .before .before .before), most .most-M), omega (arith, counted (c .before .before .before), most .most-M, c .before .before .before .before .before .before .before .before .before .pre .1), most .most-B)
 
-same-length : tie.Need-same-length
-same-length c = search needs
-
 -- the front is the tally
 tallied : (c : tie.After-tally-all) → take (c .before .before .before .before .before .before .args .d .m) (c .tally-all .last .1 .1 .1 .0) ≡ tallyOf (readState (c .before .before .before .before .before .before .args .state .now)) (c .before .before .before .before .before .before .args .spare .now)
 tallied c =
@@ -59,14 +50,5 @@ returns c =
     (made .0 _ _ (tallied (c .before .before .before .before .before .before)) numbers, made .1 _ _ (tallied (c .before .before .before .before .before .before)) numbers)
 
 pub taken-spec : {M : Type 1} → statement M
-taken-spec =
-    tie.close
-    (tie.spec
-    cast-m
-    slice-aggregate-tally-all
-    tally-all-requires
-    array-share-prefix-tally
-    slice-aggregate-choose
-    choose-requires
-    same-length
-    returns)
+taken-spec = tie.close (tie.spec (λ c. search needs) (λ c. search needs) tally-all-requires array-share-prefix-tally
+    slice-aggregate-choose choose-requires (λ c. search needs) returns)

@@ -14,9 +14,6 @@ returns c =
     let none = none-moved _ _ _ (pre .0 .0) _ _ (pre .1 .0) (pre .1 .1) (c .if1 .taken) in
     (none .0, λ erased. none .1 _)
 
-lowest-free-requires : tie.Need-lowest-free-requires
-lowest-free-requires c κs = search needs
-
 -- the block that is written is one of the device's
 inside : (c : tie.After-lowest-free) → c .lowest-free .result < c .before .before .before .before .before .before .before .before .args .d .m
 inside c = lowest-in _ _ _ (c .before .before .before .before .before .before .before .before .pre .0 .0) (length-counts _ _ (c .before .before .before .before .before .before .before .before .pre .0 .0 .shape)) _ (c .lowest-free .ensures)
@@ -30,15 +27,6 @@ write-block-requires c κs =
 mul-result : tie.Need-mul-result
 mul-result c = omega (arith, block-fits _ _ _ (c .before .before .before .before .before .before .before .before .before .before .before .before .before .before .before .before .before .before .before .pre .0 .0) _ (inside (c .before .before .before .before .before .before .before .before .before .before .before)))
 
-same-length : tie.Need-same-length
-same-length c = search needs
-
-same-length-2 : tie.Need-same-length-2
-same-length-2 c = search needs
-
-same-length-3 : tie.Need-same-length-3
-same-length-3 c = search needs
-
 returns-2 : tie.Need-returns-2
 returns-2 c =
     let pre = c .before .before .before .before .before .before .before .before .before .before .before .before .before .before .before .before .before .before .before .pre in
@@ -46,14 +34,5 @@ returns-2 c =
     some-moved _ _ _ (pre .0 .0) _ _ (pre .1 .0) (pre .1 .1) (c .before .before .before .before .before .before .before .before .before .before .before .before .before .if1 .left) _ (c .before .before .before .before .before .before .before .before .before .before .before .lowest-free .ensures) _ _ _ _ (made .0) (made .1 .0) (made .1 .1)
 
 pub write-moves-spec : {M : Type 1} → statement M
-write-moves-spec =
-    tie.close
-    (tie.spec
-    returns
-    lowest-free-requires
-    write-block-requires
-    mul-result
-    same-length
-    same-length-2
-    same-length-3
-    returns-2)
+write-moves-spec = tie.close (tie.spec returns (λ c κs. search needs) write-block-requires mul-result
+    (λ c. search needs) (λ c. search needs) (λ c. search needs) returns-2)

@@ -24,22 +24,10 @@ abbrev μ-loop : tie.MeasureT-loop
 loop-holds : tie.Need-loop-holds Inv-loop μ-loop
 loop-holds c = (omega arith, refl, refl, c .before .before .before .pre .0, λ plan erased. refl)
 
-mul-erase-block : tie.Need-mul-erase-block Inv-loop μ-loop
-mul-erase-block c = omega arith
-
-shared-slice-read-erase-block : tie.Need-shared-slice-read-erase-block Inv-loop μ-loop
-shared-slice-read-erase-block c = omega arith
-
 erase-block-requires : tie.Need-erase-block-requires Inv-loop μ-loop
 erase-block-requires c κs =
     let inv = c .before .before .before .before .loop .inv in
     (inv .3, inv .2 ∙ c .before .before .before .before .before .before .before .before .pre .1, ltb-true _ _ (all-getD (λ k. ltb k (c .before .before .before .before .before .before .before .before .args .d .m)) _ _ (c .before .before .before .before .before .before .before .before .pre .2) (omega arith)))
-
-add-i : tie.Need-add-i Inv-loop μ-loop
-add-i c = omega arith
-
-loop-less : tie.Need-loop-less Inv-loop μ-loop
-loop-less c = omega arith
 
 loop-again : tie.Need-loop-again Inv-loop μ-loop
 loop-again c =
@@ -52,28 +40,9 @@ loop-again c =
       cleared-next _ _ _ _ _ _ (inv .4) (c .before .before .before .before .before .before .before .before .loop-test .taken) _ _ (made .ensures),
     )
 
-same-length : tie.Need-same-length Inv-loop μ-loop
-same-length c = omega arith
-
-same-length-2 : tie.Need-same-length-2 Inv-loop μ-loop
-same-length-2 c = omega arith
-
 returns : tie.Need-returns Inv-loop μ-loop
 returns c = cleared-end _ _ _ _ _ _ (c .before .loop .inv .4) (c .loop-test .left)
 
 pub erase-blocks-spec : {M : Type 1} → statement M
-erase-blocks-spec =
-    tie.close
-    (tie.spec
-    Inv-loop
-    μ-loop
-    loop-holds
-    mul-erase-block
-    shared-slice-read-erase-block
-    erase-block-requires
-    add-i
-    loop-less
-    loop-again
-    same-length
-    same-length-2
-    returns)
+erase-blocks-spec = tie.close (tie.spec Inv-loop μ-loop loop-holds (λ c. omega arith) (λ c. omega arith)
+    erase-block-requires (λ c. omega arith) (λ c. omega arith) loop-again (λ c. omega arith) (λ c. omega arith) returns)

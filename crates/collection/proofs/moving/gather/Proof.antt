@@ -32,12 +32,6 @@ abbrev μ-loop : tie.MeasureT-loop
 loop-holds : tie.Need-loop-holds Inv-loop μ-loop
 loop-holds c = (omega arith, refl, refl, sym (zero-add _), refl, refl)
 
-mul-gather-block : tie.Need-mul-gather-block Inv-loop μ-loop
-mul-gather-block c = omega arith
-
-shared-slice-read-gather-block : tie.Need-shared-slice-read-gather-block Inv-loop μ-loop
-shared-slice-read-gather-block c = omega arith
-
 gather-block-requires : tie.Need-gather-block-requires Inv-loop μ-loop
 gather-block-requires c κs =
     let start = c .before .before .before .before .before .before .before .before .before .before in
@@ -49,12 +43,6 @@ gather-block-requires c κs =
       omega (arith, part, at-loop .inv .3, at-loop .inv .1, start .pre .2),
       omega (arith, part, at-loop .inv .3, at-loop .inv .2, start .pre .3),
     )
-
-add-i : tie.Need-add-i Inv-loop μ-loop
-add-i c = omega arith
-
-loop-less : tie.Need-loop-less Inv-loop μ-loop
-loop-less c = omega arith
 
 loop-again : tie.Need-loop-again Inv-loop μ-loop
 loop-again c =
@@ -72,12 +60,6 @@ loop-again c =
       stored-part _ _ _ _ _ _ _ _ (at-loop .inv .5) (gathered-next _ _ _ _ inside) (made .1 .1) (made .0),
     )
 
-same-length : tie.Need-same-length Inv-loop μ-loop
-same-length c = omega arith
-
-same-length-2 : tie.Need-same-length-2 Inv-loop μ-loop
-same-length-2 c = omega arith
-
 returns : tie.Need-returns Inv-loop μ-loop
 returns c =
     let inv = c .before .loop .inv in
@@ -85,18 +67,5 @@ returns c =
     (uncounted _ _ _ (inv .3) none, (stored-all _ _ _ _ (inv .4) (named-none _ _ _ none), stored-all _ _ _ _ (inv .5) none))
 
 pub gather-spec : {M : Type 1} → statement M
-gather-spec =
-    tie.close
-    (tie.spec
-    Inv-loop
-    μ-loop
-    loop-holds
-    mul-gather-block
-    shared-slice-read-gather-block
-    gather-block-requires
-    add-i
-    loop-less
-    loop-again
-    same-length
-    same-length-2
-    returns)
+gather-spec = tie.close (tie.spec Inv-loop μ-loop loop-holds (λ c. omega arith) (λ c. omega arith) gather-block-requires
+    (λ c. omega arith) (λ c. omega arith) loop-again (λ c. omega arith) (λ c. omega arith) returns)

@@ -82,9 +82,6 @@ add-n c = omega (arith, room c, c .before .before .before .before .before .befor
 add-i : tie.Need-add-i Inv-loop μ-loop
 add-i c = omega (arith, limits _ (c .before .before .before .before .before .before .before .before .before .pre .0 .shape .limits) .most-B)
 
-loop-less : tie.Need-loop-less Inv-loop μ-loop
-loop-less c = omega arith
-
 loop-again : tie.Need-loop-again Inv-loop μ-loop
 loop-again c =
     let inv = c .before .before .before .before .loop .inv in
@@ -100,9 +97,6 @@ loop-again c =
 add-i-2 : tie.Need-add-i-2 Inv-loop μ-loop
 add-i-2 c = omega (arith, limits _ (c .before .before .before .before .before .before .before .before .pre .0 .shape .limits) .most-B)
 
-loop-less-2 : tie.Need-loop-less-2 Inv-loop μ-loop
-loop-less-2 c = omega arith
-
 loop-again-2 : tie.Need-loop-again-2 Inv-loop μ-loop
 loop-again-2 c =
     let start = c .before .before .before .before .before .before .before .before in
@@ -116,12 +110,6 @@ loop-again-2 c =
       at-loop .inv .5 ∙ ap (store (at-loop .sources) (at-loop .n)) passed,
     )
 
-same-length : tie.Need-same-length Inv-loop μ-loop
-same-length c = omega arith
-
-same-length-2 : tie.Need-same-length-2 Inv-loop μ-loop
-same-length-2 c = omega arith
-
 returns : tie.Need-returns Inv-loop μ-loop
 returns c =
     let inv = c .before .loop .inv in
@@ -129,29 +117,6 @@ returns c =
     (uncounted _ _ _ (inv .3) none, (stored-all _ _ _ _ (inv .4) (named-none _ _ _ none), stored-all _ _ _ _ (inv .5) none))
 
 pub gather-block-spec : {M : Type 1} → statement M
-gather-block-spec =
-    tie.close
-    (tie.spec
-    Inv-loop
-    μ-loop
-    mul-a
-    loop-holds
-    add-valid
-    valid-requires
-    add-middle
-    middle-requires
-    mul-pages
-    slice-write-pages
-    add-sources
-    mul-sources
-    slice-write-sources
-    add-n
-    add-i
-    loop-less
-    loop-again
-    add-i-2
-    loop-less-2
-    loop-again-2
-    same-length
-    same-length-2
-    returns)
+gather-block-spec = tie.close (tie.spec Inv-loop μ-loop mul-a loop-holds add-valid valid-requires add-middle
+    middle-requires mul-pages slice-write-pages add-sources mul-sources slice-write-sources add-n add-i
+    (λ c. omega arith) loop-again add-i-2 (λ c. omega arith) loop-again-2 (λ c. omega arith) (λ c. omega arith) returns)

@@ -28,12 +28,6 @@ sort-writes-requires c κs =
     let made = c .before .before .before .before .before .before .gather .ensures in
     sort-ready _ _ _ (pre .0) (length-counts _ _ (pre .0 .shape)) _ _ _ _ _ _ (pre .1) (made .0) (made .1 .0) (made .1 .1) (pre .2) (pre .3)
 
-same-length : tie.Need-same-length
-same-length c = search needs
-
-same-length-2 : tie.Need-same-length-2
-same-length-2 c = search needs
-
 returns : tie.Need-returns
 returns c =
     let pre = c .before .before .before .before .before .before .before .before .before .before .before .before .before .before .before .before .before .before .before .pre in
@@ -42,5 +36,4 @@ returns c =
     sort-done _ _ _ (pre .0) (length-counts _ _ (pre .0 .shape)) _ _ _ _ _ _ (pre .1) (made .0) (made .1 .0) (made .1 .1) (pre .2) (pre .3) _ _ _ (sorted .0) (sorted .1 .0) (sorted .1 .1)
 
 pub moves-spec : {M : Type 1} → statement M
-moves-spec =
-    tie.close (tie.spec gather-requires sort-writes-requires same-length same-length-2 returns)
+moves-spec = tie.close (tie.spec gather-requires sort-writes-requires (λ c. search needs) (λ c. search needs) returns)

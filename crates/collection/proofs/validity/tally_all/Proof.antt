@@ -27,9 +27,6 @@ loop-holds c = (omega arith, refl, refl)
 tally-block-requires : tie.Need-tally-block-requires Inv-loop μ-loop
 tally-block-requires c κs = (c .before .before .before .before .before .pre .0, c .loop-test .taken)
 
-cast-tally : tie.Need-cast-tally Inv-loop μ-loop
-cast-tally c = omega arith
-
 mul-tally : tie.Need-mul-tally Inv-loop μ-loop
 mul-tally c = omega (arith, small _ (c .before .before .before .before .before .before .pre .0 .shape .limits) .blocks)
 
@@ -39,33 +36,14 @@ slice-write-tally c = omega (arith, c .before .before .before .before .before .b
 add-k : tie.Need-add-k Inv-loop μ-loop
 add-k c = omega (arith, small _ (c .before .before .before .before .before .before .pre .0 .shape .limits) .blocks)
 
-loop-less : tie.Need-loop-less Inv-loop μ-loop
-loop-less c = omega arith
-
 loop-again : tie.Need-loop-again Inv-loop μ-loop
 loop-again c =
     let next = tallies-next _ _ _ _ (omega (arith, c .before .loop-test .taken, length-counts _ _ (c .before .before .before .before .before .before .pre .0 .shape))) (c .tally-block .ensures) in
     (omega arith, simp length-set (omega arith), stored-on _ _ _ _ _ _ (c .before .before .loop .inv .2) next)
 
-same-length : tie.Need-same-length Inv-loop μ-loop
-same-length c = omega arith
-
 returns : tie.Need-returns Inv-loop μ-loop
 returns c = stored-all _ _ _ _ (c .before .loop .inv .2) (tallies-end _ _ _ (omega (arith, c .loop-test .left, length-counts _ _ (c .before .before .before .before .before .pre .0 .shape))))
 
 pub tally-all-spec : {M : Type 1} → statement M
-tally-all-spec =
-    tie.close
-    (tie.spec
-    Inv-loop
-    μ-loop
-    loop-holds
-    tally-block-requires
-    cast-tally
-    mul-tally
-    slice-write-tally
-    add-k
-    loop-less
-    loop-again
-    same-length
-    returns)
+tally-all-spec = tie.close (tie.spec Inv-loop μ-loop loop-holds tally-block-requires (λ c. omega arith) mul-tally
+    slice-write-tally add-k (λ c. omega arith) loop-again (λ c. omega arith) returns)

@@ -4,17 +4,11 @@ use Rattle.collection.proofs.Judging.{tally-free, tally-used}
 use Rattle.collection.proofs.validity.tally_block.Statement.{statement}
 use Rattle.collection.proofs.validity.tally_block.Tie as tie
 
-count-requires : tie.Need-count-requires
-count-requires c κs = search needs
-
 returns : tie.Need-returns
 returns c = tally-free _ _ _ _ (c .before .count .ensures .0) (c .if1 .taken)
-
-valid-pages-requires : tie.Need-valid-pages-requires
-valid-pages-requires c κs = search needs
 
 returns-2 : tie.Need-returns-2
 returns-2 c = tally-used _ _ _ _ (c .before .before .count .ensures .0) (c .before .if1 .left) _ (c .valid-pages .ensures)
 
 pub tally-block-spec : {M : Type 1} → statement M
-tally-block-spec = tie.close (tie.spec count-requires returns valid-pages-requires returns-2)
+tally-block-spec = tie.close (tie.spec (λ c κs. search needs) returns (λ c κs. search needs) returns-2)

@@ -7,9 +7,6 @@ use Rattle.collection.proofs.Judging.{group-fine, too-high, not-given, 
 use Rattle.collection.proofs.validity.valid.Statement.{statement}
 use Rattle.collection.proofs.validity.valid.Tie as tie
 
-middle-requires : tie.Need-middle-requires
-middle-requires c κs = search needs
-
 returns : tie.Need-returns
 returns c = too-high _ _ _ (c .before .before .before .before .before .pre .0) _ _ (c .before .before .middle .ensures) (omega arith)
 
@@ -17,9 +14,6 @@ seek-requires : tie.Need-seek-requires
 seek-requires c κs =
     let passed = c .before .before .before .before .before .pre .0 in
     (passed .shape, passed .fits, omega arith, group-fine _ _ _ passed _)
-
-enum-known-q : tie.Need-enum-known-q
-enum-known-q c = search needs
 
 returns-2 : tie.Need-returns-2
 returns-2 c =
@@ -33,5 +27,4 @@ returns-3 c =
     (c .before .before .before .before .if1 .left) _ _ _ (sym (ap soughtOf (c .before .q .given .1)) ∙ c .before .before .before .seek .ensures)
 
 pub valid-spec : {M : Type 1} → statement M
-valid-spec =
-    tie.close (tie.spec middle-requires returns seek-requires enum-known-q returns-2 returns-3)
+valid-spec = tie.close (tie.spec (λ c κs. search needs) returns seek-requires (λ c. search needs) returns-2 returns-3)

@@ -41,9 +41,6 @@ add-n c = omega (arith, limits _ (c .before .before .before .before .before .bef
 add-i : tie.Need-add-i Inv-loop μ-loop
 add-i c = omega (arith, limits _ (c .before .before .before .before .before .before .pre .0 .shape .limits) .most-B)
 
-loop-less : tie.Need-loop-less Inv-loop μ-loop
-loop-less c = omega arith
-
 loop-again : tie.Need-loop-again Inv-loop μ-loop
 loop-again c =
     let next = valid-next _ _ _ (c .before .before .before .before .before .before .pre .0) _ _ (c .before .before .loop-test .taken) _ (c .before .valid .ensures) (c .if1 .taken) in
@@ -51,9 +48,6 @@ loop-again c =
 
 add-i-2 : tie.Need-add-i-2 Inv-loop μ-loop
 add-i-2 c = omega (arith, limits _ (c .before .before .before .before .before .before .pre .0 .shape .limits) .most-B)
-
-loop-less-2 : tie.Need-loop-less-2 Inv-loop μ-loop
-loop-less-2 c = omega arith
 
 loop-again-2 : tie.Need-loop-again-2 Inv-loop μ-loop
 loop-again-2 c =
@@ -66,20 +60,5 @@ returns c =
     uncounted _ _ _ (c .before .loop .inv .2) (valid-end _ _ _ (start .pre .0) _ _ (c .loop-test .left)) ∙ ap length (valid-first _ _ _ (start .pre .0) _)
 
 pub valid-pages-spec : {M : Type 1} → statement M
-valid-pages-spec =
-    tie.close
-    (tie.spec
-    Inv-loop
-    μ-loop
-    mul-a
-    loop-holds
-    add-valid
-    valid-requires
-    add-n
-    add-i
-    loop-less
-    loop-again
-    add-i-2
-    loop-less-2
-    loop-again-2
-    returns)
+valid-pages-spec = tie.close (tie.spec Inv-loop μ-loop mul-a loop-holds add-valid valid-requires add-n add-i
+    (λ c. omega arith) loop-again add-i-2 (λ c. omega arith) loop-again-2 returns)

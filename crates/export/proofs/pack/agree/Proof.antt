@@ -7,18 +7,6 @@ use Rattle.export.specs.Packing.{packed}
 use Rattle.export.proofs.pack.agree.Statement.{statement}
 use Rattle.export.proofs.pack.agree.Tie as tie
 
-enum-told : tie.Need-enum-told
-enum-told c = search needs
-
-enum-told-2 : tie.Need-enum-told-2
-enum-told-2 c = search needs
-
-enum-known-a : tie.Need-enum-known-a
-enum-known-a c = search needs
-
-refused-requires : tie.Need-refused-requires
-refused-requires c κs = search needs
-
 returns : tie.Need-returns
 unfolding packed agreeAnswer
 returns c = sym (ap (λ (a : Agreed). packed (agreeAnswer a)) (c .enum-told .given .1))
@@ -32,6 +20,5 @@ unfolding agreeAnswer
 returns-3 c = c .refused .ensures ∙ sym (ap (λ (a : Agreed). packed (agreeAnswer a)) (c .before .before .a .given .1))
 
 pub agree-spec : {M : Type 1} → statement M
-agree-spec =
-    tie.close
-    (tie.spec enum-told enum-told-2 enum-known-a refused-requires returns returns-2 returns-3)
+agree-spec = tie.close (tie.spec (λ c. search needs) (λ c. search needs) (λ c. search needs) (λ c κs. search needs)
+    returns returns-2 returns-3)

@@ -14,35 +14,14 @@ bounds : (c : tie.After-known-told) → (c .before .a .given .0 .0 < bit20) × (
 unfolding Fitting collectAnswer
 bounds c = subst (λ (a : Collected). Fitting (collectAnswer a)) (c .before .a .given .1) (c .before .before .before .pre)
 
-enum-known-a : tie.Need-enum-known-a
-enum-known-a c = search needs
-
-cast-result : tie.Need-cast-result
-cast-result c = search needs
-
 mul-result : tie.Need-mul-result
 mul-result c = omega (arith, bounds c)
-
-cast-result-2 : tie.Need-cast-result-2
-cast-result-2 c = search needs
-
-mul-result-2 : tie.Need-mul-result-2
-mul-result-2 c = search needs
 
 add-result : tie.Need-add-result
 add-result c = omega (arith, bounds c)
 
-cast-result-3 : tie.Need-cast-result-3
-cast-result-3 c = search needs
-
 add-result-2 : tie.Need-add-result-2
 add-result-2 c = omega (arith, bounds c)
-
-enum-known-a-2 : tie.Need-enum-known-a-2
-enum-known-a-2 c = search needs
-
-refused-requires : tie.Need-refused-requires
-refused-requires c κs = search needs
 
 returns : tie.Need-returns
 unfolding packed collectAnswer
@@ -53,18 +32,6 @@ unfolding collectAnswer
 returns-2 c = c .refused .ensures ∙ sym (ap (λ (a : Collected). packed (collectAnswer a)) (c .before .before .a2 .given .1))
 
 pub collect-spec : {M : Type 1} → statement M
-collect-spec =
-    tie.close
-    (tie.spec
-    enum-known-a
-    cast-result
-    mul-result
-    cast-result-2
-    mul-result-2
-    add-result
-    cast-result-3
-    add-result-2
-    enum-known-a-2
-    refused-requires
-    returns
+collect-spec = tie.close (tie.spec (λ c. search needs) (λ c. search needs) mul-result (λ c. search needs)
+    (λ c. search needs) add-result (λ c. search needs) add-result-2 (λ c. search needs) (λ c κs. search needs) returns
     returns-2)

@@ -7,18 +7,6 @@ use Rattle.export.specs.Packing.{packed}
 use Rattle.export.proofs.pack.compact.Statement.{statement}
 use Rattle.export.proofs.pack.compact.Tie as tie
 
-enum-known-a : tie.Need-enum-known-a
-enum-known-a c = search needs
-
-cast-result : tie.Need-cast-result
-cast-result c = search needs
-
-enum-known-a-2 : tie.Need-enum-known-a-2
-enum-known-a-2 c = search needs
-
-refused-requires : tie.Need-refused-requires
-refused-requires c κs = search needs
-
 returns : tie.Need-returns
 unfolding packed compactAnswer
 returns c = sym (ap (λ (a : Compacted). packed (compactAnswer a)) (c .before .a .given .1))
@@ -28,5 +16,5 @@ unfolding compactAnswer
 returns-2 c = c .refused .ensures ∙ sym (ap (λ (a : Compacted). packed (compactAnswer a)) (c .before .before .a2 .given .1))
 
 pub compact-spec : {M : Type 1} → statement M
-compact-spec =
-    tie.close (tie.spec enum-known-a cast-result enum-known-a-2 refused-requires returns returns-2)
+compact-spec = tie.close (tie.spec (λ c. search needs) (λ c. search needs) (λ c. search needs) (λ c κs. search needs)
+    returns returns-2)

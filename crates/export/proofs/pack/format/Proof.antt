@@ -7,15 +7,6 @@ use Rattle.export.specs.Packing.{packed}
 use Rattle.export.proofs.pack.format.Statement.{statement}
 use Rattle.export.proofs.pack.format.Tie as tie
 
-enum-told : tie.Need-enum-told
-enum-told c = search needs
-
-enum-known-a : tie.Need-enum-known-a
-enum-known-a c = search needs
-
-refused-requires : tie.Need-refused-requires
-refused-requires c κs = search needs
-
 returns : tie.Need-returns
 unfolding packed formatAnswer
 returns c = sym (ap (λ (a : Formatted). packed (formatAnswer a)) (c .enum-told .given .1))
@@ -25,4 +16,4 @@ unfolding formatAnswer
 returns-2 c = c .refused .ensures ∙ sym (ap (λ (a : Formatted). packed (formatAnswer a)) (c .before .before .a .given .1))
 
 pub format-spec : {M : Type 1} → statement M
-format-spec = tie.close (tie.spec enum-told enum-known-a refused-requires returns returns-2)
+format-spec = tie.close (tie.spec (λ c. search needs) (λ c. search needs) (λ c κs. search needs) returns returns-2)

@@ -18,47 +18,20 @@ levels : (c : tie.After-known-told2) → c .before .a2 .given .0 .0 ≤ 512
 unfolding Fitting lookupAnswer
 levels c = subst (λ (a : Lookup). Fitting (lookupAnswer a)) (c .before .a2 .given .1) (c .before .before .before .pre)
 
-enum-known-a : tie.Need-enum-known-a
-enum-known-a c = search needs
-
-cast-result : tie.Need-cast-result
-cast-result c = search needs
-
 mul-result : tie.Need-mul-result
 mul-result c = omega (arith, bounds c)
 
 add-result : tie.Need-add-result
 add-result c = omega (arith, bounds c)
 
-cast-result-2 : tie.Need-cast-result-2
-cast-result-2 c = search needs
-
-mul-result-2 : tie.Need-mul-result-2
-mul-result-2 c = search needs
-
 add-result-2 : tie.Need-add-result-2
 add-result-2 c = omega (arith, bounds c)
-
-cast-result-3 : tie.Need-cast-result-3
-cast-result-3 c = search needs
 
 add-result-3 : tie.Need-add-result-3
 add-result-3 c = omega (arith, bounds c)
 
-enum-known-a-2 : tie.Need-enum-known-a-2
-enum-known-a-2 c = search needs
-
-cast-result-4 : tie.Need-cast-result-4
-cast-result-4 c = search needs
-
 mul-result-3 : tie.Need-mul-result-3
 mul-result-3 c = omega (arith, levels c)
-
-enum-known-a-3 : tie.Need-enum-known-a-3
-enum-known-a-3 c = search needs
-
-refused-requires : tie.Need-refused-requires
-refused-requires c κs = search needs
 
 returns : tie.Need-returns
 unfolding packed lookupAnswer
@@ -73,23 +46,6 @@ unfolding lookupAnswer
 returns-3 c = c .refused .ensures ∙ sym (ap (λ (a : Lookup). packed (lookupAnswer a)) (c .before .before .a3 .given .1))
 
 pub lookup-spec : {M : Type 1} → statement M
-lookup-spec =
-    tie.close
-    (tie.spec
-    enum-known-a
-    cast-result
-    mul-result
-    add-result
-    cast-result-2
-    mul-result-2
-    add-result-2
-    cast-result-3
-    add-result-3
-    enum-known-a-2
-    cast-result-4
-    mul-result-3
-    enum-known-a-3
-    refused-requires
-    returns
-    returns-2
-    returns-3)
+lookup-spec = tie.close (tie.spec (λ c. search needs) (λ c. search needs) mul-result add-result (λ c. search needs)
+    (λ c. search needs) add-result-2 (λ c. search needs) add-result-3 (λ c. search needs) (λ c. search needs)
+    mul-result-3 (λ c. search needs) (λ c κs. search needs) returns returns-2 returns-3)

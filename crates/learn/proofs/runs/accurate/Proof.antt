@@ -21,38 +21,11 @@ stride c = getD (c .before .before .before .before .before .args .written .now) 
 small : (c : tie.Else1) → (1 ≤ stride c) × (stride c ≤ 255)
 small c = stride-small _ _ (c .before .before .before .before .before .pre .1 .ascends) (goes c)
 
-mul-x : tie.Need-mul-x
-mul-x c = search needs
-
-shared-slice-read-x : tie.Need-shared-slice-read-x
-shared-slice-read-x c = search needs
-
-cast-p : tie.Need-cast-p
-cast-p c = search needs
-
-add-p : tie.Need-add-p
-add-p c = search needs
-
-add-ended : tie.Need-add-ended
-add-ended c = search needs
-
-ended-requires : tie.Need-ended-requires
-ended-requires c κs = search needs
-
-less-requires : tie.Need-less-requires
-less-requires c κs = search needs
-
 returns : tie.Need-returns
 returns c = (
   single-at _ _ _ _ (ahead-none _ _ _ (sym (c .before .before .ended .ensures) ∙ c .before .if1 .taken)) (toZ-ofZ {w = w32} (record { sfits = c .less .ok }) ∙ c .less .ensures),
   (omega arith, omega (arith, c .before .before .before .before .before .before .pre .0)),
 )
-
-add-d : tie.Need-add-d
-add-d c = search needs
-
-mul-d : tie.Need-mul-d
-mul-d c = search needs
 
 shared-slice-read-d : tie.Need-shared-slice-read-d
 shared-slice-read-d c = goes (c .before) .inside
@@ -60,17 +33,8 @@ shared-slice-read-d c = goes (c .before) .inside
 sub-d : tie.Need-sub-d
 sub-d c = omega (arith, small (c .before) .0)
 
-add-stride-end : tie.Need-add-stride-end
-add-stride-end c = search needs
-
 stride-end-requires : tie.Need-stride-end-requires
 stride-end-requires c κs = (goes (c .before) .inside, c .before .before .before .before .before .before .pre .1 .ascends)
-
-sub-n : tie.Need-sub-n
-sub-n c = search needs
-
-cast-t11 : tie.Need-cast-t11
-cast-t11 c = search needs
 
 mul-t17 : tie.Need-mul-t17
 mul-t17 c =
@@ -93,9 +57,6 @@ div-less c = small (c .before .before) .0
 less-requires-2 : tie.Need-less-requires-2
 less-requires-2 c κs = (omega (arith, c .before .before .before .before .before .before .before .pre .1 .pages), omega (arith, quotient-small (getD (c .before .before .before .before .before .before .before .args .written .now) (c .before .before .before .before .before .before .before .args .i) 0 % 256) (stride (c .before .before)) (omega arith) (small (c .before .before) .1)))
 
-add-t15 : tie.Need-add-t15
-add-t15 c = search needs
-
 returns-2 : tie.Need-returns-2
 returns-2 c = (
   strided-at _ _ _ _ (c .before .before .before .before .before .before .before .before .pre .1 .ascends) (goes (c .before .before .before)) _ (c .before .stride-end .ensures .0) (toZ-ofZ {w = w32} (record { sfits = c .less2 .ok }) ∙ c .less2 .ensures),
@@ -103,30 +64,7 @@ returns-2 c = (
 )
 
 pub accurate-spec : {M : Type 1} → statement M
-accurate-spec =
-    tie.close
-    (tie.spec
-    mul-x
-    shared-slice-read-x
-    cast-p
-    add-p
-    add-ended
-    ended-requires
-    less-requires
-    returns
-    add-d
-    mul-d
-    shared-slice-read-d
-    sub-d
-    add-stride-end
-    stride-end-requires
-    sub-n
-    cast-t11
-    mul-t17
-    mul-t18
-    sub-less
-    add-less
-    div-less
-    less-requires-2
-    add-t15
-    returns-2)
+accurate-spec = tie.close (tie.spec (λ c. search needs) (λ c. search needs) (λ c. search needs) (λ c. search needs)
+    (λ c. search needs) (λ c κs. search needs) (λ c κs. search needs) returns (λ c. search needs) (λ c. search needs)
+    shared-slice-read-d sub-d (λ c. search needs) stride-end-requires (λ c. search needs) (λ c. search needs) mul-t17
+    mul-t18 sub-less add-less div-less less-requires-2 (λ c. search needs) returns-2)

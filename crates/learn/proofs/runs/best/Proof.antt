@@ -15,20 +15,8 @@ Inv-loop written i b k f₀ a₀ f a = (a ≤ 257) × (1 ≤ f .size) × (f .siz
 abbrev μ-loop : tie.MeasureT-loop
 μ-loop written i b k f₀ a₀ f a = 257 - a
 
-mul-k : tie.Need-mul-k Inv-loop μ-loop
-mul-k c = omega arith
-
-shared-slice-read-k : tie.Need-shared-slice-read-k Inv-loop μ-loop
-shared-slice-read-k c = omega arith
-
 loop-holds : tie.Need-loop-holds Inv-loop μ-loop
 loop-holds c = (omega arith, c .before .before .pre .2, c .before .before .pre .3, refl)
-
-add-ended : tie.Need-add-ended Inv-loop μ-loop
-add-ended c = omega arith
-
-ended-requires : tie.Need-ended-requires Inv-loop μ-loop
-ended-requires c κs = search needs
 
 returns : tie.Need-returns Inv-loop μ-loop
 returns c =
@@ -41,12 +29,6 @@ better-requires c κs =
     let p = c .before .before .before .before .before .before .before .pre in
     (p .0, p .1, c .before .before .before .loop-test .taken, c .before .before .before .before .loop .inv .1, ahead-some _ _ _ (sym (c .before .ended .ensures) ∙ c .if1 .left) .inside)
 
-add-a : tie.Need-add-a Inv-loop μ-loop
-add-a c = omega arith
-
-loop-less : tie.Need-loop-less Inv-loop μ-loop
-loop-less c = omega arith
-
 loop-again : tie.Need-loop-again Inv-loop μ-loop
 loop-again c =
     let p = c .before .before .before .before .before .before .before .before .pre in
@@ -58,19 +40,5 @@ returns-2 : tie.Need-returns-2 Inv-loop μ-loop
 returns-2 c = sym (from-start _ _ _ _ ∙ c .before .loop .inv .3 ∙ from-end _ _ _ _ _ (omega arith))
 
 pub best-spec : {M : Type 1} → statement M
-best-spec =
-    tie.close
-    (tie.spec
-    Inv-loop
-    μ-loop
-    mul-k
-    shared-slice-read-k
-    loop-holds
-    add-ended
-    ended-requires
-    returns
-    better-requires
-    add-a
-    loop-less
-    loop-again
-    returns-2)
+best-spec = tie.close (tie.spec Inv-loop μ-loop (λ c. omega arith) (λ c. omega arith) loop-holds (λ c. omega arith)
+    (λ c κs. search needs) returns better-requires (λ c. omega arith) (λ c. omega arith) loop-again returns-2)

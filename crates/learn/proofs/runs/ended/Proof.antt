@@ -3,12 +3,6 @@ use borrow.Author.Needs.{needs}
 use Rattle.learn.proofs.runs.ended.Statement.{statement}
 use Rattle.learn.proofs.runs.ended.Tie as tie
 
-mul-result : tie.Need-mul-result
-mul-result c = search needs
-
-shared-slice-read-result : tie.Need-shared-slice-read-result
-shared-slice-read-result c = search needs
-
 returns : tie.Need-returns
 returns c = ended-at _ _ _ (c .before .if1 .taken)
 
@@ -16,4 +10,4 @@ returns-2 : tie.Need-returns-2
 returns-2 c = ended-past _ _ _ (c .if1 .left)
 
 pub ended-spec : {M : Type 1} → statement M
-ended-spec = tie.close (tie.spec mul-result shared-slice-read-result returns returns-2)
+ended-spec = tie.close (tie.spec (λ c. search needs) (λ c. search needs) returns returns-2)

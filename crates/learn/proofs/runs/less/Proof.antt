@@ -5,12 +5,6 @@ use borrow.Author.Needs.{needs}
 use Rattle.learn.proofs.runs.less.Statement.{statement}
 use Rattle.learn.proofs.runs.less.Tie as tie
 
-cast-result : tie.Need-cast-result
-cast-result c = search needs
-
-cast-result-2 : tie.Need-cast-result-2
-cast-result-2 c = search needs
-
 sub-result : tie.Need-sub-result
 sub-result c = rw (less-is _ _ (c .pre .0) (c .pre .1)) (less-fits _ _ (c .pre .0) (c .pre .1))
 
@@ -18,4 +12,4 @@ returns : tie.Need-returns
 returns c = rw (less-is _ _ (c .pre .0) (c .pre .1)) (toZ-ofZ {w = w32} (less-fits _ _ (c .pre .0) (c .pre .1)))
 
 pub less-spec : {M : Type 1} → statement M
-less-spec = tie.close (tie.spec cast-result cast-result-2 sub-result returns)
+less-spec = tie.close (tie.spec (λ c. search needs) (λ c. search needs) sub-result returns)

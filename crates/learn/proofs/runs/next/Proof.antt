@@ -11,9 +11,6 @@ use Rattle.learn.proofs.runs.next.Tie as tie
 on : (c : tie.Start) → c .args .b .first + c .args .i ≤ c .args .b .last
 on c = omega (arith, c .pre .0, c .pre .1 .end)
 
-accurate-requires : tie.Need-accurate-requires
-accurate-requires c κs = search needs
-
 returns : tie.Need-returns
 returns c = subst (IsRun _) (takes-exact _ _ _ (c .if1 .taken)) (c .before .before .accurate .ensures .0)
 
@@ -36,6 +33,4 @@ returns-3 c =
     (c .approximate .ensures .0 ∙ u .0, c .approximate .ensures .1 ∙ u .1)
 
 pub next-spec : {M : Type 1} → statement M
-next-spec =
-    tie.close
-    (tie.spec accurate-requires returns best-requires returns-2 approximate-requires returns-3)
+next-spec = tie.close (tie.spec (λ c κs. search needs) returns best-requires returns-2 approximate-requires returns-3)

@@ -20,35 +20,11 @@ abbrev μ-loop : tie.MeasureT-loop
 goes : (c : tie.Then1 Inv-loop μ-loop) → Goes (c .before .before .before .before .before .before .before .before .args .written .now) (getD (c .before .before .before .before .before .before .before .before .args .written .now) (c .before .before .before .before .before .before .before .before .args .i) 0 / 256) (c .before .before .loop .j)
 goes c = ahead-some _ _ _ (sym (c .before .ended .ensures) ∙ not-true _ (c .if1 .taken))
 
-mul-k : tie.Need-mul-k Inv-loop μ-loop
-mul-k c = omega arith
-
-shared-slice-read-k : tie.Need-shared-slice-read-k Inv-loop μ-loop
-shared-slice-read-k c = omega arith
-
-mul-suiting : tie.Need-mul-suiting Inv-loop μ-loop
-mul-suiting c = omega arith
-
-shared-slice-read-suiting : tie.Need-shared-slice-read-suiting Inv-loop μ-loop
-shared-slice-read-suiting c = omega arith
-
-cast-suiting : tie.Need-cast-suiting Inv-loop μ-loop
-cast-suiting c = omega arith
-
-add-suiting : tie.Need-add-suiting Inv-loop μ-loop
-add-suiting c = omega arith
-
 suiting-requires : tie.Need-suiting-requires Inv-loop μ-loop
 suiting-requires c κs = let s = c .before .before .before .before .pre .1 in (s .bound, omega (arith, s .pages), omega (arith, s .end, s .pages), omega arith, c .before .before .before .before .pre .2, omega arith)
 
-add-j : tie.Need-add-j Inv-loop μ-loop
-add-j c = omega arith
-
 loop-holds : tie.Need-loop-holds Inv-loop μ-loop
 loop-holds c = (omega arith, omega arith, reach-starts _ _ _ _ _ refl _ (c .suiting .ensures))
-
-ended-requires : tie.Need-ended-requires Inv-loop μ-loop
-ended-requires c κs = search needs
 
 mul-suiting-2 : tie.Need-mul-suiting-2 Inv-loop μ-loop
 mul-suiting-2 c = omega (arith, goes c .inside)
@@ -56,28 +32,16 @@ mul-suiting-2 c = omega (arith, goes c .inside)
 shared-slice-read-suiting-2 : tie.Need-shared-slice-read-suiting-2 Inv-loop μ-loop
 shared-slice-read-suiting-2 c = goes (c .before) .inside
 
-cast-suiting-2 : tie.Need-cast-suiting-2 Inv-loop μ-loop
-cast-suiting-2 c = omega arith
-
 add-suiting-2 : tie.Need-add-suiting-2 Inv-loop μ-loop
 add-suiting-2 c = omega (arith, goes (c .before .before) .inside, c .before .before .before .before .before .before .before .before .before .before .pre .1 .pages)
 
 suiting-requires-2 : tie.Need-suiting-requires-2 Inv-loop μ-loop
 suiting-requires-2 c κs = let s = c .before .before .before .before .before .before .before .before .before .before .pre .1 in (s .bound, omega (arith, s .pages), omega (arith, s .end, s .pages), omega (arith, goes (c .before .before) .inside, s .pages), c .before .before .before .before .before .before .before .before .before .before .pre .2, omega arith)
 
-common-requires : tie.Need-common-requires Inv-loop μ-loop
-common-requires c κs = search needs
-
-sub-t25 : tie.Need-sub-t25 Inv-loop μ-loop
-sub-t25 c = omega arith
-
 returns : tie.Need-returns Inv-loop μ-loop
 returns c =
     reach-breaks _ _ _ _ _ _ _ _ _ (goes (c .before .before .before .before .before .before)) (c .before .before .before .suiting2 .ensures) (c .before .before .common .ensures) (c .if2 .taken)
     ∙ sym (c .before .before .before .before .before .before .before .before .loop .inv .2)
-
-add-j-2 : tie.Need-add-j-2 Inv-loop μ-loop
-add-j-2 c = omega arith
 
 loop-less : tie.Need-loop-less Inv-loop μ-loop
 loop-less c = omega (arith, goes (c .before .before .before .before .before .before) .inside)
@@ -91,39 +55,13 @@ loop-again c =
       v .2 ∙ reach-goes _ _ _ _ _ _ _ _ _ g (c .before .before .before .suiting2 .ensures) (c .before .before .common .ensures) (omega (arith, v .0)) (c .if2 .left),
     )
 
-sub-t9 : tie.Need-sub-t9 Inv-loop μ-loop
-sub-t9 c = omega arith
-
 returns-2 : tie.Need-returns-2 Inv-loop μ-loop
 returns-2 c =
     reach-ends _ _ _ _ _ _ _ (ahead-none _ _ _ (sym (c .before .ended .ensures) ∙ not-false _ (c .if1 .left))) ∙ sym (c .before .before .loop .inv .2)
 
 pub reach-spec : {M : Type 1} → statement M
-reach-spec =
-    tie.close
-    (tie.spec
-    Inv-loop
-    μ-loop
-    mul-k
-    shared-slice-read-k
-    mul-suiting
-    shared-slice-read-suiting
-    cast-suiting
-    add-suiting
-    suiting-requires
-    add-j
-    loop-holds
-    ended-requires
-    mul-suiting-2
-    shared-slice-read-suiting-2
-    cast-suiting-2
-    add-suiting-2
-    suiting-requires-2
-    common-requires
-    sub-t25
-    returns
-    add-j-2
-    loop-less
-    loop-again
-    sub-t9
+reach-spec = tie.close (tie.spec Inv-loop μ-loop (λ c. omega arith) (λ c. omega arith) (λ c. omega arith)
+    (λ c. omega arith) (λ c. omega arith) (λ c. omega arith) suiting-requires (λ c. omega arith) loop-holds
+    (λ c κs. search needs) mul-suiting-2 shared-slice-read-suiting-2 (λ c. omega arith) add-suiting-2 suiting-requires-2
+    (λ c κs. search needs) (λ c. omega arith) returns (λ c. omega arith) loop-less loop-again (λ c. omega arith)
     returns-2)

@@ -21,35 +21,14 @@ abbrev μ-loop : tie.MeasureT-loop
 goes : (c : tie.Then1 Inv-loop μ-loop) → Goes (c .before .before .before .before .before .args .written .now) (getD (c .before .before .before .before .before .args .written .now) (c .before .before .before .before .before .args .i) 0 / 256) (c .before .before .loop .j + 1)
 goes c = ahead-some _ _ _ (sym (c .before .ended .ensures) ∙ not-true _ (c .if1 .taken))
 
-mul-k : tie.Need-mul-k Inv-loop μ-loop
-mul-k c = omega arith
-
-shared-slice-read-k : tie.Need-shared-slice-read-k Inv-loop μ-loop
-shared-slice-read-k c = omega arith
-
 loop-holds : tie.Need-loop-holds Inv-loop μ-loop
 loop-holds c = (omega arith, c .before .before .pre .0, refl, omega arith)
-
-add-ended : tie.Need-add-ended Inv-loop μ-loop
-add-ended c = omega arith
-
-ended-requires : tie.Need-ended-requires Inv-loop μ-loop
-ended-requires c κs = search needs
-
-add-if2 : tie.Need-add-if2 Inv-loop μ-loop
-add-if2 c = omega arith
 
 mul-if2 : tie.Need-mul-if2 Inv-loop μ-loop
 mul-if2 c = omega (arith, goes c .inside)
 
 shared-slice-read-if2 : tie.Need-shared-slice-read-if2 Inv-loop μ-loop
 shared-slice-read-if2 c = goes (c .before) .inside
-
-mul-if2-2 : tie.Need-mul-if2-2 Inv-loop μ-loop
-mul-if2-2 c = omega arith
-
-shared-slice-read-if2-2 : tie.Need-shared-slice-read-if2-2 Inv-loop μ-loop
-shared-slice-read-if2-2 c = omega arith
 
 sub-if2 : tie.Need-sub-if2 Inv-loop μ-loop
 sub-if2 c = omega (arith, rises _ _ (c .before .before .before .before .loop .j + 1) (c .before .before .before .before .before .before .before .pre .1) (let q : c .before .before .before .before .loop .j < c .before .before .before .before .loop .j + 1 = omega arith in q) (goes (c .before .before) .inside))
@@ -60,12 +39,6 @@ returns c =
     let v = c .before .before .before .before .before .loop .inv in
     let e = stride-breaks _ _ _ _ (c .before .before .before .before .before .before .before .before .pre .1) (v .2) (goes (c .before .before .before)) (c .if2 .taken) in
     (omega (arith, v .0, v .3, e), v .1)
-
-add-j : tie.Need-add-j Inv-loop μ-loop
-add-j c = omega arith
-
-loop-less : tie.Need-loop-less Inv-loop μ-loop
-loop-less c = omega arith
 
 loop-again : tie.Need-loop-again Inv-loop μ-loop
 loop-again c =
@@ -85,24 +58,6 @@ returns-2 c =
     (omega (arith, v .0, v .3, e), v .1)
 
 pub stride-end-spec : {M : Type 1} → statement M
-stride-end-spec =
-    tie.close
-    (tie.spec
-    Inv-loop
-    μ-loop
-    mul-k
-    shared-slice-read-k
-    loop-holds
-    add-ended
-    ended-requires
-    add-if2
-    mul-if2
-    shared-slice-read-if2
-    mul-if2-2
-    shared-slice-read-if2-2
-    sub-if2
-    returns
-    add-j
-    loop-less
-    loop-again
-    returns-2)
+stride-end-spec = tie.close (tie.spec Inv-loop μ-loop (λ c. omega arith) (λ c. omega arith) loop-holds
+    (λ c. omega arith) (λ c κs. search needs) (λ c. omega arith) mul-if2 shared-slice-read-if2 (λ c. omega arith)
+    (λ c. omega arith) sub-if2 returns (λ c. omega arith) (λ c. omega arith) loop-again returns-2)

@@ -4,18 +4,9 @@ use borrow.Author.Needs.{needs}
 use Rattle.lines.proofs.print.lay_bad.Statement.{statement}
 use Rattle.lines.proofs.print.lay_bad.Tie as tie
 
-slice-aggregate-put-text : tie.Need-slice-aggregate-put-text
-slice-aggregate-put-text c = search needs
-
-put-text-requires : tie.Need-put-text-requires
-put-text-requires c κs = search needs
-
-same-length : tie.Need-same-length
-same-length c = search needs
-
 returns : tie.Need-returns
 unfolding ascii badLine
 returns c = c .before .before .put-text .ensures
 
 pub lay-bad-spec : {M : Type 1} → statement M
-lay-bad-spec = tie.close (tie.spec slice-aggregate-put-text put-text-requires same-length returns)
+lay-bad-spec = tie.close (tie.spec (λ c. search needs) (λ c κs. search needs) (λ c. search needs) returns)

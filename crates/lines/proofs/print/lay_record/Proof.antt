@@ -9,27 +9,6 @@ use borrow.Author.Needs.{needs}
 use Rattle.lines.proofs.print.lay_record.Statement.{statement}
 use Rattle.lines.proofs.print.lay_record.Tie as tie
 
-put-number-requires : tie.Need-put-number-requires
-put-number-requires c κs = search needs
-
-put-number-requires-2 : tie.Need-put-number-requires-2
-put-number-requires-2 c κs = search needs
-
-put-number-requires-3 : tie.Need-put-number-requires-3
-put-number-requires-3 c κs = search needs
-
-put-number-requires-4 : tie.Need-put-number-requires-4
-put-number-requires-4 c κs = search needs
-
-put-integer-requires : tie.Need-put-integer-requires
-put-integer-requires c κs = search needs
-
-put-byte-requires : tie.Need-put-byte-requires
-put-byte-requires c κs = search needs
-
-same-length : tie.Need-same-length
-same-length c = search needs
-
 returns : tie.Need-returns
 unfolding signed ascii lineFor
 returns c =
@@ -42,14 +21,5 @@ returns c =
     (c .before .before .put-byte .ensures)))))
 
 pub lay-record-spec : {M : Type 1} → statement M
-lay-record-spec =
-    tie.close
-    (tie.spec
-    put-number-requires
-    put-number-requires-2
-    put-number-requires-3
-    put-number-requires-4
-    put-integer-requires
-    put-byte-requires
-    same-length
-    returns)
+lay-record-spec = tie.close (tie.spec (λ c κs. search needs) (λ c κs. search needs) (λ c κs. search needs)
+    (λ c κs. search needs) (λ c κs. search needs) (λ c κs. search needs) (λ c. search needs) returns)

@@ -5,21 +5,6 @@ use borrow.Author.Needs.{needs}
 use Rattle.lines.proofs.print.lay_refused.Statement.{statement}
 use Rattle.lines.proofs.print.lay_refused.Tie as tie
 
-slice-aggregate-put-text : tie.Need-slice-aggregate-put-text
-slice-aggregate-put-text c = search needs
-
-put-text-requires : tie.Need-put-text-requires
-put-text-requires c κs = search needs
-
-put-number-requires : tie.Need-put-number-requires
-put-number-requires c κs = search needs
-
-put-byte-requires : tie.Need-put-byte-requires
-put-byte-requires c κs = search needs
-
-same-length : tie.Need-same-length
-same-length c = search needs
-
 returns : tie.Need-returns
 unfolding signed ascii refusedLine
 returns c =
@@ -28,12 +13,5 @@ returns c =
     (c .before .before .put-byte .ensures))
 
 pub lay-refused-spec : {M : Type 1} → statement M
-lay-refused-spec =
-    tie.close
-    (tie.spec
-    slice-aggregate-put-text
-    put-text-requires
-    put-number-requires
-    put-byte-requires
-    same-length
-    returns)
+lay-refused-spec = tie.close (tie.spec (λ c. search needs) (λ c κs. search needs) (λ c κs. search needs)
+    (λ c κs. search needs) (λ c. search needs) returns)

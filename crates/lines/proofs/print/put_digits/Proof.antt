@@ -7,12 +7,6 @@ use borrow.Author.Needs.{needs}
 use Rattle.lines.proofs.print.put_digits.Statement.{statement}
 use Rattle.lines.proofs.print.put_digits.Tie as tie
 
-add-put-blanks : tie.Need-add-put-blanks
-add-put-blanks c = search needs
-
-put-blanks-requires : tie.Need-put-blanks-requires
-put-blanks-requires c κs = search needs
-
 put-byte-requires : tie.Need-put-byte-requires
 put-byte-requires c κs =
     let start = c .before .before .before .before .before .before .before .before .args in
@@ -26,14 +20,8 @@ put-text-requires c κs =
     let sign = c .before .before .before .put-byte in
     omega (arith, blanks-next (start .width - (length (start .digits .now) + 1)) (blanks .ensures), blanks .kept .0, sign .ensures .next, sign .kept .0)
 
-same-length : tie.Need-same-length
-same-length c = search needs
-
 returns : tie.Need-returns
 returns c = rw (c .before .before .before .before .before .before .before .before .before .before .before .before .if1 .taken) (laid-signed _ _ (c .before .before .before .before .before .before .before .before .before .before .put-blanks .ensures) (c .before .before .before .before .before .before .put-byte .ensures) (c .before .before .put-text .ensures))
-
-put-blanks-requires-2 : tie.Need-put-blanks-requires-2
-put-blanks-requires-2 c κs = search needs
 
 put-text-requires-2 : tie.Need-put-text-requires-2
 put-text-requires-2 c κs =
@@ -41,23 +29,9 @@ put-text-requires-2 c κs =
     let blanks = c .before .before .before .put-blanks2 in
     omega (arith, blanks-next (start .width - length (start .digits .now)) (blanks .ensures), blanks .kept .0)
 
-same-length-2 : tie.Need-same-length-2
-same-length-2 c = search needs
-
 returns-2 : tie.Need-returns-2
 returns-2 c = rw (c .before .before .before .before .before .before .before .before .if1 .left) (laid-unsigned _ _ (c .before .before .before .before .before .before .put-blanks2 .ensures) (c .before .before .put-text2 .ensures))
 
 pub put-digits-spec : {M : Type 1} → statement M
-put-digits-spec =
-    tie.close
-    (tie.spec
-    add-put-blanks
-    put-blanks-requires
-    put-byte-requires
-    put-text-requires
-    same-length
-    returns
-    put-blanks-requires-2
-    put-text-requires-2
-    same-length-2
-    returns-2)
+put-digits-spec = tie.close (tie.spec (λ c. search needs) (λ c κs. search needs) put-byte-requires put-text-requires
+    (λ c. search needs) returns (λ c κs. search needs) put-text-requires-2 (λ c. search needs) returns-2)

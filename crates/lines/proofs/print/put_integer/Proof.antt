@@ -31,12 +31,6 @@ back2 c = ap (λ (y : ℤ). toZ w32 (ofZ w32 (negsuc 0 -ℤ y))) (back (c .befor
 cast-put-number : tie.Need-cast-put-number
 cast-put-number c = rw (back (c .before .before .before)) (of-nonneg _ (c .before .before .before .fits .z) (rw (back (c .before .before .before)) at (c .before .if1 .taken)) .0)
 
-put-number-requires : tie.Need-put-number-requires
-put-number-requires c κs = search needs
-
-same-length : tie.Need-same-length
-same-length c = search needs
-
 returns : tie.Need-returns
 returns c =
     let start = c .before .before .before .before .before .before in
@@ -53,12 +47,6 @@ cast-n c = subst (λ (y : ℤ). T (nonNeg y) × Fits w32 (natAbs y)) (sym (back2
 add-n : tie.Need-add-n
 add-n c = rw (back2 c) (omega (arith, flipped c .small))
 
-put-number-requires-2 : tie.Need-put-number-requires-2
-put-number-requires-2 c κs = search needs
-
-same-length-2 : tie.Need-same-length-2
-same-length-2 c = search needs
-
 returns-2 : tie.Need-returns-2
 returns-2 c =
     let start = c .before .before .before .before .before .before in
@@ -68,16 +56,5 @@ returns-2 c =
     (laid-as (ap (right (start .args .width)) e) (laid .0), laid .1)
 
 pub put-integer-spec : {M : Type 1} → statement M
-put-integer-spec =
-    tie.close
-    (tie.spec
-    cast-put-number
-    put-number-requires
-    same-length
-    returns
-    sub-n
-    cast-n
-    add-n
-    put-number-requires-2
-    same-length-2
-    returns-2)
+put-integer-spec = tie.close (tie.spec cast-put-number (λ c κs. search needs) (λ c. search needs) returns sub-n cast-n
+    add-n (λ c κs. search needs) (λ c. search needs) returns-2)

@@ -5,22 +5,10 @@ use borrow.Author.Needs.{needs}
 use Rattle.lines.proofs.print.put_number.Statement.{statement}
 use Rattle.lines.proofs.print.put_number.Tie as tie
 
-decimal-requires : tie.Need-decimal-requires
-decimal-requires c κs = search needs
-
-array-share-prefix-text : tie.Need-array-share-prefix-text
-array-share-prefix-text c = search needs
-
-slice-aggregate-put-digits : tie.Need-slice-aggregate-put-digits
-slice-aggregate-put-digits c = search needs
-
 put-digits-requires : tie.Need-put-digits-requires
 put-digits-requires c κs =
     let text = c .before .before .decimal in
     (omega arith, omega (arith, text .ensures .0 .1, ten-digits (c .before .before .before .before .before .args .n) _ (omega arith) (text .ensures .1 .0)))
-
-same-length : tie.Need-same-length
-same-length c = search needs
 
 returns : tie.Need-returns
 returns c =
@@ -29,12 +17,5 @@ returns c =
     laid-number _ _ _ _ _ (start .pre .0) (omega (arith, start .fits .n)) (text .ensures .1 .0) (text .ensures .0 .1) (text .ensures .1 .1) (c .before .before .put-digits .ensures)
 
 pub put-number-spec : {M : Type 1} → statement M
-put-number-spec =
-    tie.close
-    (tie.spec
-    decimal-requires
-    array-share-prefix-text
-    slice-aggregate-put-digits
-    put-digits-requires
-    same-length
-    returns)
+put-number-spec = tie.close (tie.spec (λ c κs. search needs) (λ c. search needs) (λ c. search needs) put-digits-requires
+    (λ c. search needs) returns)

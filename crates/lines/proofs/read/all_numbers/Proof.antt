@@ -20,24 +20,9 @@ loop-holds c =
     let e : c .before .args .count ≡ c .before .args .count - 0 = omega arith in
     (omega arith, ap (λ (n : ℕ). isThere (numbersFrom (c .before .args .line .now) 0 n)) e)
 
-number-at-requires : tie.Need-number-at-requires Inv-loop μ-loop
-number-at-requires c κs = omega arith
-
-enum-told : tie.Need-enum-told Inv-loop μ-loop
-enum-told c = search needs
-
 returns : tie.Need-returns Inv-loop μ-loop
 unfolding fieldRead
 returns c = sym (c .before .before .before .before .loop .inv .1 ∙ field-bad _ _ _ (c .before .before .before .loop-test .taken) (sym (c .before .before .number-at .ensures) ∙ ap fieldRead (c .enum-told .given .1)))
-
-enum-told-2 : tie.Need-enum-told-2 Inv-loop μ-loop
-enum-told-2 c = search needs
-
-add-i : tie.Need-add-i Inv-loop μ-loop
-add-i c = omega arith
-
-loop-less : tie.Need-loop-less Inv-loop μ-loop
-loop-less c = omega arith
 
 loop-again : tie.Need-loop-again Inv-loop μ-loop
 unfolding fieldRead
@@ -47,17 +32,5 @@ returns-2 : tie.Need-returns-2 Inv-loop μ-loop
 returns-2 c = sym (c .before .loop .inv .1 ∙ fields-passed _ _ _ (c .loop-test .left))
 
 pub all-numbers-spec : {M : Type 1} → statement M
-all-numbers-spec =
-    tie.close
-    (tie.spec
-    Inv-loop
-    μ-loop
-    loop-holds
-    number-at-requires
-    enum-told
-    returns
-    enum-told-2
-    add-i
-    loop-less
-    loop-again
-    returns-2)
+all-numbers-spec = tie.close (tie.spec Inv-loop μ-loop loop-holds (λ c κs. omega arith) (λ c. search needs) returns
+    (λ c. search needs) (λ c. omega arith) (λ c. omega arith) loop-again returns-2)

@@ -23,9 +23,6 @@ small c = one-more _ _ _ (c .before .before .before .before .loop .inv .1) (omeg
 loop-holds : tie.Need-loop-holds Inv-loop μ-loop
 loop-holds c = (omega arith, one-le-pow _ _ (omega arith), refl)
 
-shared-slice-read-c : tie.Need-shared-slice-read-c Inv-loop μ-loop
-shared-slice-read-c c = omega arith
-
 returns : tie.Need-returns Inv-loop μ-loop
 unfolding fieldRead
 returns c = sym (below-digits _ _ _ (c .before .before .loop-test .taken) (c .if1 .taken)) ∙ c .before .before .before .loop .inv .2
@@ -37,17 +34,8 @@ returns-2 c = sym (above-digits _ _ _ (c .before .before .before .loop-test .tak
 mul-v : tie.Need-mul-v Inv-loop μ-loop
 mul-v c = omega (arith, small c)
 
-cast-v : tie.Need-cast-v Inv-loop μ-loop
-cast-v c = omega arith
-
 add-v : tie.Need-add-v Inv-loop μ-loop
 add-v c = omega (arith, small c)
-
-add-i : tie.Need-add-i Inv-loop μ-loop
-add-i c = omega arith
-
-loop-less : tie.Need-loop-less Inv-loop μ-loop
-loop-less c = omega arith
 
 loop-again : tie.Need-loop-again Inv-loop μ-loop
 loop-again c = (omega arith, small c .power, sym (digit-read _ _ _ (c .before .before .before .loop-test .taken) (c .before .if1 .left) (c .if2 .left)) ∙ c .before .before .before .before .loop .inv .2)
@@ -57,19 +45,5 @@ unfolding fieldRead
 returns-3 c = sym (digits-end _ _ _ (c .loop-test .left)) ∙ c .before .loop .inv .2
 
 pub digits-spec : {M : Type 1} → statement M
-digits-spec =
-    tie.close
-    (tie.spec
-    Inv-loop
-    μ-loop
-    loop-holds
-    shared-slice-read-c
-    returns
-    returns-2
-    mul-v
-    cast-v
-    add-v
-    add-i
-    loop-less
-    loop-again
-    returns-3)
+digits-spec = tie.close (tie.spec Inv-loop μ-loop loop-holds (λ c. omega arith) returns returns-2 mul-v
+    (λ c. omega arith) add-v (λ c. omega arith) (λ c. omega arith) loop-again returns-3)

@@ -6,18 +6,12 @@ use borrow.Author.Needs.{needs}
 use Rattle.lines.proofs.read.number.Statement.{statement}
 use Rattle.lines.proofs.read.number.Tie as tie
 
-blanks-requires : tie.Need-blanks-requires
-blanks-requires c κs = search needs
-
 returns : tie.Need-returns
 unfolding fieldRead
 returns c = sym (c .before .blanks .ensures .1 ∙ blanks-only _ _ (c .if1 .taken))
-
-digits-requires : tie.Need-digits-requires
-digits-requires c κs = search needs
 
 returns-2 : tie.Need-returns-2
 returns-2 c = c .digits .ensures ∙ sym (c .before .before .blanks .ensures .1 ∙ digits-begin _ _ (c .before .if1 .left) (c .before .before .blanks .ensures .2 (c .before .if1 .left)))
 
 pub number-spec : {M : Type 1} → statement M
-number-spec = tie.close (tie.spec blanks-requires returns digits-requires returns-2)
+number-spec = tie.close (tie.spec (λ c κs. search needs) returns (λ c κs. search needs) returns-2)

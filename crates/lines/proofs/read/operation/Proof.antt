@@ -12,8 +12,5 @@ slice-aggregate-number c = sym (length-take-le 2 (c .before .before .args .line 
 number-requires : tie.Need-number-requires
 number-requires c κs = omega (arith, length-take-le 2 (c .before .before .args .line .now) (c .before .before .pre))
 
-returns : tie.Need-returns
-returns c = search needs
-
 pub operation-spec : {M : Type 1} → statement M
-operation-spec = tie.close (tie.spec slice-aggregate-number number-requires returns)
+operation-spec = tie.close (tie.spec slice-aggregate-number number-requires (λ c. search needs))

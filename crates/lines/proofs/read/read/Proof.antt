@@ -24,45 +24,21 @@ taken c = sym (c .before .takes .ensures) ∙ not-false _ (c .if3 .left)
 returns : tie.Need-returns
 returns c = bad-read _ _ (too-short _ (c .if1 .taken))
 
-sub-if2 : tie.Need-sub-if2
-sub-if2 c = search needs
-
 returns-2 : tie.Need-returns-2
 returns-2 c = bad-read _ _ (part-field _ (c .before .if1 .left) (c .if2 .taken))
-
-sub-count : tie.Need-sub-count
-sub-count c = search needs
-
-operation-requires : tie.Need-operation-requires
-operation-requires c κs = search needs
-
-enum-known-op : tie.Need-enum-known-op
-enum-known-op c = search needs
-
-enum-told : tie.Need-enum-told
-enum-told c = search needs
 
 returns-3 : tie.Need-returns-3
 unfolding fieldRead
 returns-3 c = bad-read _ _ (no-operation _ (c .before .before .before .before .if1 .left) (c .before .before .before .if2 .left) (sym (c .before .before .operation .ensures) ∙ ap fieldRead (c .enum-told .given .1)))
 
-takes-requires : tie.Need-takes-requires
-takes-requires c κs = search needs
-
 returns-4 : tie.Need-returns-4
 returns-4 c = bad-read _ _ (other-count _ (c .before .before .before .before .before .before .before .if1 .left) (c .before .before .before .before .before .before .if2 .left) _ (held (c .before .before)) (sym (c .before .takes .ensures) ∙ not-true _ (c .if3 .taken)))
-
-all-numbers-requires : tie.Need-all-numbers-requires
-all-numbers-requires c κs = search needs
 
 returns-5 : tie.Need-returns-5
 returns-5 c = bad-read _ _ (no-numbers _ (c .before .before .before .before .before .before .before .before .before .if1 .left) (c .before .before .before .before .before .before .before .before .if2 .left) (sym (c .before .all-numbers .ensures) ∙ not-true _ (c .if4 .taken)))
 
 fill-requires : tie.Need-fill-requires
 fill-requires c κs = (omega arith, omega (arith, takes-few _ _ (taken (c .before .before .before))))
-
-same-length : tie.Need-same-length
-same-length c = search needs
 
 returns-6 : tie.Need-returns-6
 returns-6 c =
@@ -72,21 +48,6 @@ returns-6 c =
     (length-values _ _ _)
 
 pub read-spec : {M : Type 1} → statement M
-read-spec =
-    tie.close
-    (tie.spec
-    returns
-    sub-if2
-    returns-2
-    sub-count
-    operation-requires
-    enum-known-op
-    enum-told
-    returns-3
-    takes-requires
-    returns-4
-    all-numbers-requires
-    returns-5
-    fill-requires
-    same-length
-    returns-6)
+read-spec = tie.close (tie.spec returns (λ c. search needs) returns-2 (λ c. search needs) (λ c κs. search needs)
+    (λ c. search needs) (λ c. search needs) returns-3 (λ c κs. search needs) returns-4 (λ c κs. search needs) returns-5
+    fill-requires (λ c. search needs) returns-6)

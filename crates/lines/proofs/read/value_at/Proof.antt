@@ -5,15 +5,6 @@ use borrow.Author.Needs.{needs}
 use Rattle.lines.proofs.read.value_at.Statement.{statement}
 use Rattle.lines.proofs.read.value_at.Tie as tie
 
-number-at-requires : tie.Need-number-at-requires
-number-at-requires c κs = search needs
-
-enum-known-field : tie.Need-enum-known-field
-enum-known-field c = search needs
-
-enum-told : tie.Need-enum-told
-enum-told c = search needs
-
 returns : tie.Need-returns
 unfolding fieldRead valueOf
 returns c = ap valueOf (sym (ap fieldRead (c .before .field .given .1)) ∙ c .before .before .before .number-at .ensures)
@@ -23,5 +14,4 @@ unfolding fieldRead valueOf
 returns-2 c = ap valueOf (sym (ap fieldRead (c .enum-told .given .1)) ∙ c .before .before .number-at .ensures)
 
 pub value-at-spec : {M : Type 1} → statement M
-value-at-spec =
-    tie.close (tie.spec number-at-requires enum-known-field enum-told returns returns-2)
+value-at-spec = tie.close (tie.spec (λ c κs. search needs) (λ c. search needs) (λ c. search needs) returns returns-2)

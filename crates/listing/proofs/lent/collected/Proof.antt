@@ -6,15 +6,6 @@ use borrow.Author.Needs.{needs}
 use Rattle.listing.proofs.lent.collected.Statement.{statement}
 use Rattle.listing.proofs.lent.collected.Tie as tie
 
-enum-told : tie.Need-enum-told
-enum-told c = search needs
-
-enum-known-a : tie.Need-enum-known-a
-enum-known-a c = search needs
-
-number-requires : tie.Need-number-requires
-number-requires c κs = search needs
-
 returns : tie.Need-returns
 unfolding number collectAnswer
 returns c = sym (ap (λ (a : _). number (collectAnswer a)) (c .enum-told .given .1))
@@ -24,4 +15,4 @@ unfolding number collectAnswer
 returns-2 c = c .number .ensures ∙ sym (ap (λ (a : _). number (collectAnswer a)) (c .before .before .a .given .1))
 
 pub collected-spec : {M : Type 1} → statement M
-collected-spec = tie.close (tie.spec enum-told enum-known-a number-requires returns returns-2)
+collected-spec = tie.close (tie.spec (λ c. search needs) (λ c. search needs) (λ c κs. search needs) returns returns-2)

@@ -6,15 +6,6 @@ use borrow.Author.Needs.{needs}
 use Rattle.listing.proofs.lent.flushed.Statement.{statement}
 use Rattle.listing.proofs.lent.flushed.Tie as tie
 
-enum-told : tie.Need-enum-told
-enum-told c = search needs
-
-enum-known-a : tie.Need-enum-known-a
-enum-known-a c = search needs
-
-number-requires : tie.Need-number-requires
-number-requires c κs = search needs
-
 returns : tie.Need-returns
 unfolding number flushAnswer
 returns c = sym (ap (λ (a : _). number (flushAnswer a)) (c .enum-told .given .1))
@@ -24,4 +15,4 @@ unfolding number flushAnswer
 returns-2 c = c .number .ensures ∙ sym (ap (λ (a : _). number (flushAnswer a)) (c .before .before .a .given .1))
 
 pub flushed-spec : {M : Type 1} → statement M
-flushed-spec = tie.close (tie.spec enum-told enum-known-a number-requires returns returns-2)
+flushed-spec = tie.close (tie.spec (λ c. search needs) (λ c. search needs) (λ c κs. search needs) returns returns-2)

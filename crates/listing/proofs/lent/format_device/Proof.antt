@@ -14,9 +14,6 @@ use Rattle.listing.proofs.lent.format_device.Tie as tie
 held : (c : tie.Else1) → takesDevice (numbersOf (c .before .before .before .before .args .d)) ≡ true
 held c = sym (c .before .takes .ensures) ∙ not-false _ (c .if1 .left)
 
-takes-requires : tie.Need-takes-requires
-takes-requires c κs = search needs
-
 returns : tie.Need-returns
 returns c = (sym (c .before .takes .ensures) ∙ not-true _ (c .if1 .taken), refl, refl)
 
@@ -31,18 +28,6 @@ format-parts-requires c κs =
     let start = c .before .before .before .before .before .before .before .before in
     let inside = room (numbersOf (start .args .d)) (start .args .state .now) (start .args .spare .now) (held (c .before .before .before .before)) (start .pre .0) (start .pre .1) in
     (omega (arith, inside .stateUsed, c .before .before .before .state-len .ensures), omega (arith, inside .spareUsed, c .before .before .spare-len .ensures))
-
-cast-t13 : tie.Need-cast-t13
-cast-t13 c = search needs
-
-cast-t14 : tie.Need-cast-t14
-cast-t14 c = search needs
-
-same-length : tie.Need-same-length
-same-length c = search needs
-
-same-length-2 : tie.Need-same-length-2
-same-length-2 c = search needs
 
 returns-2 : tie.Need-returns-2
 returns-2 c =
@@ -59,16 +44,5 @@ returns-2 c =
     (parts .ensures)
 
 pub format-device-spec : {M : Type 1} → statement M
-format-device-spec =
-    tie.close
-    (tie.spec
-    takes-requires
-    returns
-    state-len-requires
-    spare-len-requires
-    format-parts-requires
-    cast-t13
-    cast-t14
-    same-length
-    same-length-2
-    returns-2)
+format-device-spec = tie.close (tie.spec (λ c κs. search needs) returns state-len-requires spare-len-requires
+    format-parts-requires (λ c. search needs) (λ c. search needs) (λ c. search needs) (λ c. search needs) returns-2)

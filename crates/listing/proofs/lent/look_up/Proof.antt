@@ -12,21 +12,9 @@ slice-aggregate-lookup c = front-length _ (c .before .before .before .args .stat
 slice-aggregate-lookup-2 : tie.Need-slice-aggregate-lookup-2
 slice-aggregate-lookup-2 c = front-length _ (c .before .before .before .before .args .spare .now) (omega arith)
 
-lookup-requires : tie.Need-lookup-requires
-lookup-requires c κs = search needs
-
-looked-up-requires : tie.Need-looked-up-requires
-looked-up-requires c κs = search needs
-
 returns : tie.Need-returns
 returns c = obeyed (c .before .lookup .ensures) (c .looked-up .ensures) refl refl
 
 pub look-up-spec : {M : Type 1} → statement M
-look-up-spec =
-    tie.close
-    (tie.spec
-    slice-aggregate-lookup
-    slice-aggregate-lookup-2
-    lookup-requires
-    looked-up-requires
-    returns)
+look-up-spec = tie.close (tie.spec slice-aggregate-lookup slice-aggregate-lookup-2 (λ c κs. search needs)
+    (λ c κs. search needs) returns)

@@ -6,18 +6,6 @@ use borrow.Author.Needs.{needs}
 use Rattle.listing.proofs.lent.looked_up.Statement.{statement}
 use Rattle.listing.proofs.lent.looked_up.Tie as tie
 
-enum-told : tie.Need-enum-told
-enum-told c = search needs
-
-enum-told-2 : tie.Need-enum-told-2
-enum-told-2 c = search needs
-
-enum-known-a : tie.Need-enum-known-a
-enum-known-a c = search needs
-
-number-requires : tie.Need-number-requires
-number-requires c κs = search needs
-
 returns : tie.Need-returns
 unfolding number lookupAnswer
 returns c = sym (ap (λ (a : _). number (lookupAnswer a)) (c .enum-told .given .1))
@@ -31,6 +19,5 @@ unfolding number lookupAnswer
 returns-3 c = c .number .ensures ∙ sym (ap (λ (a : _). number (lookupAnswer a)) (c .before .before .a .given .1))
 
 pub looked-up-spec : {M : Type 1} → statement M
-looked-up-spec =
-    tie.close
-    (tie.spec enum-told enum-told-2 enum-known-a number-requires returns returns-2 returns-3)
+looked-up-spec = tie.close (tie.spec (λ c. search needs) (λ c. search needs) (λ c. search needs) (λ c κs. search needs)
+    returns returns-2 returns-3)

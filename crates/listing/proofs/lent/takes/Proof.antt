@@ -8,9 +8,6 @@ use borrow.Author.Needs.{needs}
 use Rattle.listing.proofs.lent.takes.Statement.{statement}
 use Rattle.listing.proofs.lent.takes.Tie as tie
 
-within-limits-requires : tie.Need-within-limits-requires
-within-limits-requires c κs = search needs
-
 returns : tie.Need-returns
 returns c = sym (not-within _ (sym (c .before .within-limits .ensures) ∙ not-true _ (c .if1 .taken)))
 
@@ -24,5 +21,4 @@ returns-3 : tie.Need-returns-3
 returns-3 c = ap (λ (n : ℕ). leb n 8192) (c .spare-len .ensures) ∙ sym (entries-decide _ (sym (c .before .before .before .before .within-limits .ensures) ∙ not-false _ (c .before .before .before .if1 .left)) (c .before .if2 .left))
 
 pub takes-spec : {M : Type 1} → statement M
-takes-spec =
-    tie.close (tie.spec within-limits-requires returns returns-2 spare-len-requires returns-3)
+takes-spec = tie.close (tie.spec (λ c κs. search needs) returns returns-2 spare-len-requires returns-3)

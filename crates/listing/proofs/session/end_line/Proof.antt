@@ -7,18 +7,6 @@ use Rattle.listing.proofs.session.end_line.Tie as tie
 slice-aggregate-obey : tie.Need-slice-aggregate-obey
 slice-aggregate-obey c = front-length _ (c .before .before .before .before .args .line .now) (c .before .before .before .before .pre .0)
 
-obey-requires : tie.Need-obey-requires
-obey-requires c κs = search needs
-
-same-length : tie.Need-same-length
-same-length c = search needs
-
-same-length-2 : tie.Need-same-length-2
-same-length-2 c = search needs
-
-returns : tie.Need-returns
-returns c = search needs
-
 pub end-line-spec : {M : Type 1} → statement M
-end-line-spec =
-    tie.close (tie.spec slice-aggregate-obey obey-requires same-length same-length-2 returns)
+end-line-spec = tie.close (tie.spec slice-aggregate-obey (λ c κs. search needs) (λ c. search needs) (λ c. search needs)
+    (λ c. search needs))

@@ -34,9 +34,6 @@ loop-holds c =
       },
     )
 
-read-some-requires : tie.Need-read-some-requires Inv-loop μ-loop
-read-some-requires c κs = search needs
-
 finish-requires : tie.Need-finish-requires Inv-loop μ-loop
 finish-requires c κs = c .before .before .before .before .before .before .before .before .before .loop .inv .4
 
@@ -52,17 +49,8 @@ same-length-3 c = c .before .before .before .before .finish .kept .1 .0 ∙ c .b
 same-length-4 : tie.Need-same-length-4 Inv-loop μ-loop
 same-length-4 c = c .before .before .before .before .finish .kept .1 .1 .0 ∙ c .before .before .before .before .before .before .before .before .before .before .before .before .before .before .loop .inv .3
 
-returns : tie.Need-returns Inv-loop μ-loop
-returns c = search needs
-
 feed-first-requires : tie.Need-feed-first-requires Inv-loop μ-loop
 feed-first-requires c κs = (c .before .before .before .before .before .before .before .read-some .ensures, c .before .before .before .before .before .before .before .before .before .before .loop .inv .4)
-
-sub-turns : tie.Need-sub-turns Inv-loop μ-loop
-sub-turns c = omega arith
-
-loop-less : tie.Need-loop-less Inv-loop μ-loop
-loop-less c = omega arith
 
 loop-again : tie.Need-loop-again Inv-loop μ-loop
 loop-again c =
@@ -87,29 +75,7 @@ same-length-7 c = c .before .loop .inv .2
 same-length-8 : tie.Need-same-length-8 Inv-loop μ-loop
 same-length-8 c = c .before .loop .inv .3
 
-returns-2 : tie.Need-returns-2 Inv-loop μ-loop
-returns-2 c = search needs
-
 pub run-spec : {M : Type 1} → statement M
-run-spec =
-    tie.close
-    (tie.spec
-    Inv-loop
-    μ-loop
-    loop-holds
-    read-some-requires
-    finish-requires
-    same-length
-    same-length-2
-    same-length-3
-    same-length-4
-    returns
-    feed-first-requires
-    sub-turns
-    loop-less
-    loop-again
-    same-length-5
-    same-length-6
-    same-length-7
-    same-length-8
-    returns-2)
+run-spec = tie.close (tie.spec Inv-loop μ-loop loop-holds (λ c κs. search needs) finish-requires same-length
+    same-length-2 same-length-3 same-length-4 (λ c. search needs) feed-first-requires (λ c. omega arith)
+    (λ c. omega arith) loop-again same-length-5 same-length-6 same-length-7 same-length-8 (λ c. search needs))

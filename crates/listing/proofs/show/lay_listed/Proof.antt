@@ -7,24 +7,6 @@ use borrow.Author.Needs.{needs}
 use Rattle.listing.proofs.show.lay_listed.Statement.{statement}
 use Rattle.listing.proofs.show.lay_listed.Tie as tie
 
-mul-p : tie.Need-mul-p
-mul-p c = search needs
-
-decode-requires : tie.Need-decode-requires
-decode-requires c κs = search needs
-
-add-get-u16 : tie.Need-add-get-u16
-add-get-u16 c = search needs
-
-get-u16-requires : tie.Need-get-u16-requires
-get-u16-requires c κs = search needs
-
-lay-record-requires : tie.Need-lay-record-requires
-lay-record-requires c κs = search needs
-
-same-length : tie.Need-same-length
-same-length c = search needs
-
 returns : tie.Need-returns
 returns c =
     let r = c .before .before .before .before .before .decode in
@@ -32,13 +14,5 @@ returns c =
     laid-as (ap (λ (n : ℕ). lineFor n (r .result)) (level .ensures .0) ∙ ap (lineFor _) (r .ensures .0)) (c .before .before .lay-record .ensures)
 
 pub lay-listed-spec : {M : Type 1} → statement M
-lay-listed-spec =
-    tie.close
-    (tie.spec
-    mul-p
-    decode-requires
-    add-get-u16
-    get-u16-requires
-    lay-record-requires
-    same-length
-    returns)
+lay-listed-spec = tie.close (tie.spec (λ c. search needs) (λ c κs. search needs) (λ c. search needs)
+    (λ c κs. search needs) (λ c κs. search needs) (λ c. search needs) returns)

@@ -18,27 +18,9 @@ first c = checked-device _ _ _ _ (c .before .before .before .check .ensures) (c 
 second : (c : tie.After-known-told3) → Passed (numbersOf (c .before .second .given .0 .0)) (readState (c .before .before .before .before .before .before .before .before .before .before .before .before .args .state-b .now)) (c .before .before .before .before .before .before .before .before .before .before .before .before .args .spare-b .now)
 second c = checked-device _ _ _ _ (c .before .before .before .check2 .ensures) (c .before .second .given .1)
 
-check-requires : tie.Need-check-requires
-check-requires c κs = search needs
-
-enum-known-first : tie.Need-enum-known-first
-enum-known-first c = search needs
-
-enum-known-first-2 : tie.Need-enum-known-first-2
-enum-known-first-2 c = search needs
-
 returns : tie.Need-returns
 unfolding agreeAnswer
 returns c = ran-agree _ _ _ _ _ (first-refuses _ _ _ _ _ (checked-refusal _ _ _ _ (c .before .before .before .check .ensures) (c .before .first2 .given .1)))
-
-check-requires-2 : tie.Need-check-requires-2
-check-requires-2 c κs = search needs
-
-enum-known-second : tie.Need-enum-known-second
-enum-known-second c = search needs
-
-enum-known-second-2 : tie.Need-enum-known-second-2
-enum-known-second-2 c = search needs
 
 returns-2 : tie.Need-returns-2
 unfolding agreeAnswer
@@ -72,21 +54,6 @@ returns-6 c =
     ran-agree _ _ _ _ _ (other-numbers _ _ _ _ _ (first (c .before .before .before .before .before .before .before .before .before .before .before)) _ (second (c .before .before .before .before .before .before .before)) named-a named-b (λ e. omega (arith, c .before .before .before .before .if1 .left)))
 
 pub agree-spec : {M : Type 1} → statement M
-agree-spec =
-    tie.close
-    (tie.spec
-    check-requires
-    enum-known-first
-    enum-known-first-2
-    returns
-    check-requires-2
-    enum-known-second
-    enum-known-second-2
-    returns-2
-    compare-requires
-    returns-3
-    all-named-requires
-    returns-4
-    all-named-requires-2
-    returns-5
-    returns-6)
+agree-spec = tie.close (tie.spec (λ c κs. search needs) (λ c. search needs) (λ c. search needs) returns
+    (λ c κs. search needs) (λ c. search needs) (λ c. search needs) returns-2 compare-requires returns-3
+    all-named-requires returns-4 all-named-requires-2 returns-5 returns-6)

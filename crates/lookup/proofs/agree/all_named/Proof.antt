@@ -35,9 +35,6 @@ returns c = sym (page-unnamed _ _ _ (c .before .before .before .before .before .
 add-x : tie.Need-add-x Inv-loop μ-loop
 add-x c = omega (arith, small _ (c .before .before .before .before .before .before .before .pre .shape .limits) .pages)
 
-loop-less : tie.Need-loop-less Inv-loop μ-loop
-loop-less c = omega arith
-
 loop-again : tie.Need-loop-again Inv-loop μ-loop
 loop-again c = (each-more _ _ _ (c .before .before .before .before .loop .inv .0) (sym (c .before .is-named .ensures ∙ ap isNamed (c .before .before .seek .ensures)) ∙ not-false (c .before .is-named .result) (c .if1 .left)), omega arith)
 
@@ -45,16 +42,5 @@ returns-2 : tie.Need-returns-2 Inv-loop μ-loop
 returns-2 c = sym (pages-named _ _ _ (c .before .before .before .before .pre) _ (omega (arith, c .loop-test .left, c .before .loop .inv .1)) (c .before .loop .inv .0))
 
 pub all-named-spec : {M : Type 1} → statement M
-all-named-spec =
-    tie.close
-    (tie.spec
-    Inv-loop
-    μ-loop
-    loop-holds
-    seek-requires
-    is-named-requires
-    returns
-    add-x
-    loop-less
-    loop-again
-    returns-2)
+all-named-spec = tie.close (tie.spec Inv-loop μ-loop loop-holds seek-requires is-named-requires returns add-x
+    (λ c. omega arith) loop-again returns-2)

@@ -25,15 +25,6 @@ shape c = answered-device _ _ _ (c .before .before .before .check-state .ensures
 fits : (c : tie.Else1) → length (c .before .before .before .before .before .before .before .before .args .spare .now) ≡ spareLength (held (c .before .before))
 fits c = c .if1 .left ∙ c .before .spare-len .ensures
 
-check-state-requires : tie.Need-check-state-requires
-check-state-requires c κs = search needs
-
-enum-known-opened : tie.Need-enum-known-opened
-enum-known-opened c = search needs
-
-enum-known-opened-2 : tie.Need-enum-known-opened-2
-enum-known-opened-2 c = search needs
-
 returns : tie.Need-returns
 unfolding Checks
 returns c = check-closed _ _ _ (answered-refusal _ _ _ (c .before .before .before .check-state .ensures) (c .before .opened2 .given .1))
@@ -57,15 +48,5 @@ unfolding Checks
 returns-4 c = record { shape = shape (c .before .before .before .before); fits = fits (c .before .before); sound = sym (c .before .sound .ensures) ∙ not-false (c .before .sound .result) (c .if2 .left) }
 
 pub check-spec : {M : Type 1} → statement M
-check-spec =
-    tie.close
-    (tie.spec
-    check-state-requires
-    enum-known-opened
-    enum-known-opened-2
-    returns
-    spare-len-requires
-    returns-2
-    sound-requires
-    returns-3
-    returns-4)
+check-spec = tie.close (tie.spec (λ c κs. search needs) (λ c. search needs) (λ c. search needs) returns
+    spare-len-requires returns-2 sound-requires returns-3 returns-4)

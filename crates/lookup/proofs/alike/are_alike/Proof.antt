@@ -9,28 +9,16 @@ use Rattle.lookup.proofs.Comparing.{missing, missing-unlike, missing-bo
 use Rattle.lookup.proofs.alike.are_alike.Statement.{statement}
 use Rattle.lookup.proofs.alike.are_alike.Tie as tie
 
-enum-known-first : tie.Need-enum-known-first
-enum-known-first c = search needs
-
-is-nowhere-requires : tie.Need-is-nowhere-requires
-is-nowhere-requires c κs = search needs
-
 returns : tie.Need-returns
 returns c =
     let start = c .before .before .before in
     missing-unlike (missing (start .args .first) (c .before .before .match .keys2)) (sym (c .before .is-nowhere .ensures) ∙ not-true (c .before .is-nowhere .result) (c .if1 .taken)) (soughtOf (start .args .second))
-
-is-nowhere-requires-2 : tie.Need-is-nowhere-requires-2
-is-nowhere-requires-2 c κs = search needs
 
 returns-2 : tie.Need-returns-2
 returns-2 c =
     let start = c .before .before .before .before in
     c .is-nowhere2 .ensures
     ∙ missing-both (missing (start .args .first) (c .before .before .before .match .keys2)) (sym (c .before .before .is-nowhere .ensures) ∙ not-false (c .before .before .is-nowhere .result) (c .before .if1 .left)) (soughtOf (start .args .second))
-
-enum-known-second : tie.Need-enum-known-second
-enum-known-second c = search needs
 
 returns-3 : tie.Need-returns-3
 unfolding alike soughtOf
@@ -41,14 +29,5 @@ unfolding alike gives soughtOf
 returns-4 c = rw (c .before .before .before .before .first .given .1, c .before .second .given .1)
 
 pub are-alike-spec : {M : Type 1} → statement M
-are-alike-spec =
-    tie.close
-    (tie.spec
-    enum-known-first
-    is-nowhere-requires
-    returns
-    is-nowhere-requires-2
-    returns-2
-    enum-known-second
-    returns-3
-    returns-4)
+are-alike-spec = tie.close (tie.spec (λ c. search needs) (λ c κs. search needs) returns (λ c κs. search needs) returns-2
+    (λ c. search needs) returns-3 returns-4)

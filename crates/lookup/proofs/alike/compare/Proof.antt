@@ -66,17 +66,11 @@ are-alike-requires c κs = tt
 add-x : tie.Need-add-x Inv-loop μ-loop
 add-x c = omega (arith, small _ (c .before .before .before .before .before .before .before .before .before .before .before .before .before .before .pre .0 .shape .limits) .pages)
 
-loop-less : tie.Need-loop-less Inv-loop μ-loop
-loop-less c = omega arith
-
 loop-again : tie.Need-loop-again Inv-loop μ-loop
 loop-again c = (more-apart _ _ _ _ _ _ (c .before .before .before .before .before .before .before .before .before .loop .inv .0) (first-named (c .before .before .before .before .before)) (second-named (c .before .before)) (pages-tested (c .before) ∙ not-true (c .before .are-alike .result) (c .if3 .taken)), omega arith)
 
 add-x-2 : tie.Need-add-x-2 Inv-loop μ-loop
 add-x-2 c = omega (arith, small _ (c .before .before .before .before .before .before .before .before .before .before .before .before .before .before .pre .0 .shape .limits) .pages)
-
-loop-less-2 : tie.Need-loop-less-2 Inv-loop μ-loop
-loop-less-2 c = omega arith
 
 loop-again-2 : tie.Need-loop-again-2 Inv-loop μ-loop
 loop-again-2 c = (more-alike _ _ _ _ _ _ (c .before .before .before .before .before .before .before .before .before .loop .inv .0) (first-named (c .before .before .before .before .before)) (second-named (c .before .before)) (pages-tested (c .before) ∙ not-false (c .before .are-alike .result) (c .if3 .left)), omega arith)
@@ -94,24 +88,6 @@ unfolding agreeAnswer
 returns-4 c = ended (c .before) _ (not-false (c .before .before .loop .same) (c .if4 .left))
 
 pub compare-spec : {M : Type 1} → statement M
-compare-spec =
-    tie.close
-    (tie.spec
-    Inv-loop
-    μ-loop
-    loop-holds
-    seek-requires
-    is-named-requires
-    returns
-    seek-requires-2
-    is-named-requires-2
-    returns-2
-    are-alike-requires
-    add-x
-    loop-less
-    loop-again
-    add-x-2
-    loop-less-2
-    loop-again-2
-    returns-3
-    returns-4)
+compare-spec = tie.close (tie.spec Inv-loop μ-loop loop-holds seek-requires is-named-requires returns seek-requires-2
+    is-named-requires-2 returns-2 are-alike-requires add-x (λ c. omega arith) loop-again add-x-2 (λ c. omega arith)
+    loop-again-2 returns-3 returns-4)

@@ -7,12 +7,6 @@ use borrow.Author.Needs.{needs}
 use Rattle.lookup.proofs.alike.is_named.Statement.{statement}
 use Rattle.lookup.proofs.alike.is_named.Tie as tie
 
-enum-told : tie.Need-enum-told
-enum-told c = search needs
-
-is-nowhere-requires : tie.Need-is-nowhere-requires
-is-nowhere-requires c κs = search needs
-
 returns : tie.Need-returns
 returns c = c .is-nowhere .ensures ∙ missing-named (missing (c .before .before .args .sought) (c .before .match .keys2))
 
@@ -21,4 +15,4 @@ unfolding isNamed soughtOf
 returns-2 c = rw (c .enum-told .given .1)
 
 pub is-named-spec : {M : Type 1} → statement M
-is-named-spec = tie.close (tie.spec enum-told is-nowhere-requires returns returns-2)
+is-named-spec = tie.close (tie.spec (λ c. search needs) (λ c κs. search needs) returns returns-2)

@@ -6,9 +6,6 @@ use borrow.Author.Needs.{needs}
 use Rattle.lookup.proofs.alike.is_nowhere.Statement.{statement}
 use Rattle.lookup.proofs.alike.is_nowhere.Tie as tie
 
-enum-told : tie.Need-enum-told
-enum-told c = search needs
-
 returns : tie.Need-returns
 returns c = not-nowhere (c .before .args .sought) (c .match .keys2)
 
@@ -17,4 +14,4 @@ unfolding isNowhere soughtOf
 returns-2 c = rw (c .enum-told .given .1)
 
 pub is-nowhere-spec : {M : Type 1} → statement M
-is-nowhere-spec = tie.close (tie.spec enum-told returns returns-2)
+is-nowhere-spec = tie.close (tie.spec (λ c. search needs) returns returns-2)

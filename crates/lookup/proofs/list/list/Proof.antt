@@ -32,15 +32,6 @@ inside c = omega (arith, c .if2 .left, c .before .group-count .ensures)
 sound : (c : tie.Else3) → soundGroup (held (c .before .before .before .before .before) .N) (c .before .before .before .before .before .before .before .before .before .before .before .args .group) (groupAt (readState (c .before .before .before .before .before .before .before .before .before .before .before .args .state .now)) (c .before .before .before .before .before .before .before .before .before .before .before .args .group)) ≡ true
 sound c = sym (c .before .group-sound .ensures) ∙ not-false (c .before .group-sound .result) (c .if3 .left)
 
-check-state-requires : tie.Need-check-state-requires
-check-state-requires c κs = search needs
-
-enum-known-opened : tie.Need-enum-known-opened
-enum-known-opened c = search needs
-
-enum-known-opened-2 : tie.Need-enum-known-opened-2
-enum-known-opened-2 c = search needs
-
 returns : tie.Need-returns
 unfolding listAnswer
 returns c = list-closed _ _ _ _ (answered-refusal _ _ _ (c .before .before .before .check-state .ensures) (c .before .opened2 .given .1))
@@ -68,9 +59,6 @@ returns-4 c =
 list-group-requires : tie.Need-list-group-requires
 list-group-requires c κs = (shape (c .before .before .before .before .before .before), inside (c .before .before .before), sound (c .before), c .before .before .before .before .before .if1 .left)
 
-same-length : tie.Need-same-length
-same-length c = search needs
-
 returns-5 : tie.Need-returns-5
 unfolding listAnswer
 returns-5 c =
@@ -78,18 +66,5 @@ returns-5 c =
     list-done _ _ _ _ (shape (c .before .before .before .before .before .before .before .before .before)) (c .before .before .before .before .before .before .before .before .if1 .left) (inside (c .before .before .before .before .before .before)) (sound (c .before .before .before .before)) _ _ (done .0) (done .1)
 
 pub list-spec : {M : Type 1} → statement M
-list-spec =
-    tie.close
-    (tie.spec
-    check-state-requires
-    enum-known-opened
-    enum-known-opened-2
-    returns
-    returns-2
-    group-count-requires
-    returns-3
-    group-sound-requires
-    returns-4
-    list-group-requires
-    same-length
-    returns-5)
+list-spec = tie.close (tie.spec (λ c κs. search needs) (λ c. search needs) (λ c. search needs) returns returns-2
+    group-count-requires returns-3 group-sound-requires returns-4 list-group-requires (λ c. search needs) returns-5)

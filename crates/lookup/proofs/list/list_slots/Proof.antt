@@ -45,17 +45,5 @@ returns : tie.Need-returns Inv-loop μ-loop
 returns c = (c .before .before .used .ensures .1, listed-all _ _ _ _ (omega (arith, c .loop-test .left, c .before .before .used .ensures .1)) (c .before .loop .inv .2))
 
 pub list-slots-spec : {M : Type 1} → statement M
-list-slots-spec =
-    tie.close
-    (tie.spec
-    Inv-loop
-    μ-loop
-    used-requires
-    loop-holds
-    get-requires
-    put-slot-requires
-    add-i
-    loop-less
-    loop-again
-    same-length
-    returns)
+list-slots-spec = tie.close (tie.spec Inv-loop μ-loop used-requires loop-holds get-requires put-slot-requires add-i
+    loop-less loop-again same-length returns)

@@ -41,15 +41,6 @@ answers : (c : tie.After-seek) (a : Answer) → a ≡ answerOf (seek (readState 
     → Ran (lookupCall (c .before .before .before .before .before .before .before .before .before .before .before .before .before .args .page)) (c .before .before .before .before .before .before .before .before .before .before .before .before .before .args .state .now) (c .before .before .before .before .before .before .before .before .before .before .before .before .before .args .spare .now) a (c .before .before .before .before .before .before .before .before .before .before .before .before .before .args .state .now) (c .before .before .before .before .before .before .before .before .before .before .before .before .before .args .spare .now) [] []
 answers c a e = lookup-answers _ _ _ _ (shape (c .before .before .before .before .before .before .before)) (fits (c .before .before .before .before .before)) (c .before .before .before .if2 .left) (sound (c .before)) a e
 
-check-state-requires : tie.Need-check-state-requires
-check-state-requires c κs = search needs
-
-enum-known-opened : tie.Need-enum-known-opened
-enum-known-opened c = search needs
-
-enum-known-opened-2 : tie.Need-enum-known-opened-2
-enum-known-opened-2 c = search needs
-
 returns : tie.Need-returns
 unfolding lookupAnswer
 returns c = lookup-closed _ _ _ _ (answered-refusal _ _ _ (c .before .before .before .check-state .ensures) (c .before .opened2 .given .1))
@@ -77,15 +68,6 @@ returns-4 c =
 seek-requires : tie.Need-seek-requires
 seek-requires c κs = (shape (c .before .before .before .before .before .before), fits (c .before .before .before .before), c .before .before .if2 .left, sound c)
 
-enum-known-sought : tie.Need-enum-known-sought
-enum-known-sought c = search needs
-
-enum-known-sought-2 : tie.Need-enum-known-sought-2
-enum-known-sought-2 c = search needs
-
-enum-told : tie.Need-enum-told
-enum-told c = search needs
-
 returns-5 : tie.Need-returns-5
 unfolding lookupAnswer refusalOf soughtOf answerOf
 returns-5 c = answers (c .before .before .before) _ (ap answerOf (sym (ap soughtOf (c .before .sought .given .1)) ∙ c .before .before .before .seek .ensures))
@@ -99,22 +81,6 @@ unfolding lookupAnswer refusalOf soughtOf answerOf
 returns-7 c = answers (c .before .before) _ (ap answerOf (sym (ap soughtOf (c .enum-told .given .1)) ∙ c .before .before .seek .ensures))
 
 pub lookup-spec : {M : Type 1} → statement M
-lookup-spec =
-    tie.close
-    (tie.spec
-    check-state-requires
-    enum-known-opened
-    enum-known-opened-2
-    returns
-    spare-len-requires
-    returns-2
-    returns-3
-    group-sound-requires
-    returns-4
-    seek-requires
-    enum-known-sought
-    enum-known-sought-2
-    enum-told
-    returns-5
-    returns-6
-    returns-7)
+lookup-spec = tie.close (tie.spec (λ c κs. search needs) (λ c. search needs) (λ c. search needs) returns
+    spare-len-requires returns-2 returns-3 group-sound-requires returns-4 seek-requires (λ c. search needs)
+    (λ c. search needs) (λ c. search needs) returns-5 returns-6 returns-7)

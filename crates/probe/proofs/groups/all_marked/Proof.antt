@@ -19,17 +19,8 @@ abbrev μ-loop : tie.MeasureT-loop
 loop-holds : tie.Need-loop-holds Inv-loop μ-loop
 loop-holds c = (omega arith, refl)
 
-marked-requires : tie.Need-marked-requires Inv-loop μ-loop
-marked-requires c κs = search needs
-
 returns : tie.Need-returns Inv-loop μ-loop
 returns c = sym (c .before .before .before .loop .inv .1 ∙ every-fails _ 256 _ (c .before .before .loop-test .taken) _ (c .before .marked .ensures) (not-true _ (c .if1 .taken)))
-
-add-o : tie.Need-add-o Inv-loop μ-loop
-add-o c = search needs
-
-loop-less : tie.Need-loop-less Inv-loop μ-loop
-loop-less c = omega arith
 
 loop-again : tie.Need-loop-again Inv-loop μ-loop
 loop-again c = (omega arith, c .before .before .before .loop .inv .1 ∙ every-holds _ 256 _ (c .before .before .loop-test .taken) _ (c .before .marked .ensures) (not-false _ (c .if1 .left)))
@@ -38,15 +29,5 @@ returns-2 : tie.Need-returns-2 Inv-loop μ-loop
 returns-2 c = sym (c .before .loop .inv .1 ∙ every-done _ 256 _ (c .loop-test .left))
 
 pub all-marked-spec : {M : Type 1} → statement M
-all-marked-spec =
-    tie.close
-    (tie.spec
-    Inv-loop
-    μ-loop
-    loop-holds
-    marked-requires
-    returns
-    add-o
-    loop-less
-    loop-again
-    returns-2)
+all-marked-spec = tie.close (tie.spec Inv-loop μ-loop loop-holds (λ c κs. search needs) returns (λ c. search needs)
+    (λ c. omega arith) loop-again returns-2)

@@ -25,13 +25,8 @@ ends-marked-requires c κs = (c .before .before .before .pre .0, shaped-byte 256
 returns-2 : tie.Need-returns-2
 returns-2 c = not-ends _ _ (sym (c .before .ends-marked .ensures) ∙ not-true _ (c .if2 .taken))
 
-all-marked-requires : tie.Need-all-marked-requires
-all-marked-requires c κs = search needs
-
 returns-3 : tie.Need-returns-3
 returns-3 c = all-tests _ _ (shape (c .before .before .before)) (sym (c .before .before .ends-marked .ensures) ∙ not-false _ (c .before .if2 .left)) _ (c .all-marked .ensures)
 
 pub fits-spec : {M : Type 1} → statement M
-fits-spec =
-    tie.close
-    (tie.spec shaped-requires returns ends-marked-requires returns-2 all-marked-requires returns-3)
+fits-spec = tie.close (tie.spec shaped-requires returns ends-marked-requires returns-2 (λ c κs. search needs) returns-3)

@@ -12,9 +12,6 @@ use Rattle.probe.proofs.groups.has_room.Tie as tie
 is-group : (c : tie.Else1) → isSound (c .before .before .before .args .part .now) ≡ true
 is-group c = sym (c .before .is-sound .ensures) ∙ not-false _ (c .if1 .left)
 
-is-sound-requires : tie.Need-is-sound-requires
-is-sound-requires c κs = search needs
-
 returns : tie.Need-returns
 returns c = no-room _ (sym (c .before .is-sound .ensures) ∙ not-true _ (c .if1 .taken))
 
@@ -25,4 +22,4 @@ returns-2 : tie.Need-returns-2
 returns-2 c = room _ (is-group (c .before)) _ (c .record-count .ensures)
 
 pub has-room-spec : {M : Type 1} → statement M
-has-room-spec = tie.close (tie.spec is-sound-requires returns record-count-requires returns-2)
+has-room-spec = tie.close (tie.spec (λ c κs. search needs) returns record-count-requires returns-2)

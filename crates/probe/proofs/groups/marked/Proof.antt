@@ -5,39 +5,18 @@ use Rattle.probe.proofs.Marks.{marked-zero, marked-many, marked-beyond,
 use Rattle.probe.proofs.groups.marked.Statement.{statement}
 use Rattle.probe.proofs.groups.marked.Tie as tie
 
-shared-slice-read-byte : tie.Need-shared-slice-read-byte
-shared-slice-read-byte c = search needs
-
-member-requires : tie.Need-member-requires
-member-requires c κs = search needs
-
 returns : tie.Need-returns
 returns c = marked-zero (c .before .before .before .before .args .mask .now) _ _ (c .before .before .before .before .pre .1) _ (c .before .if1 .taken) (c .member .ensures)
 
 returns-2 : tie.Need-returns-2
 returns-2 c = marked-many (c .before .before .before .before .args .mask .now) _ _ (c .before .before .before .before .pre .1) (c .before .if1 .left) (c .if2 .taken)
 
-covers-requires : tie.Need-covers-requires
-covers-requires c κs = search needs
-
 returns-3 : tie.Need-returns-3
 returns-3 c = marked-beyond (c .before .before .before .before .before .before .args .mask .now) _ _ (c .before .before .before .before .before .before .pre .1) _ (c .before .before .if2 .left) (c .before .covers .ensures) (not-true _ (c .if3 .taken))
-
-member-requires-2 : tie.Need-member-requires-2
-member-requires-2 c κs = search needs
 
 returns-4 : tie.Need-returns-4
 returns-4 c = marked-one (c .before .before .before .before .before .before .before .args .mask .now) _ _ (c .before .before .before .before .before .before .before .pre .1) _ _ (c .before .before .before .if2 .left) (c .before .before .covers .ensures) (not-false _ (c .before .if3 .left)) (c .member2 .ensures)
 
 pub marked-spec : {M : Type 1} → statement M
-marked-spec =
-    tie.close
-    (tie.spec
-    shared-slice-read-byte
-    member-requires
-    returns
-    returns-2
-    covers-requires
-    returns-3
-    member-requires-2
-    returns-4)
+marked-spec = tie.close (tie.spec (λ c. search needs) (λ c κs. search needs) returns returns-2 (λ c κs. search needs)
+    returns-3 (λ c κs. search needs) returns-4)

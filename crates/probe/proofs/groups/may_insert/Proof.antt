@@ -11,9 +11,6 @@ use Rattle.probe.proofs.groups.may_insert.Tie as tie
 room : (c : tie.Else1) → hasRoom (c .before .before .before .before .before .args .part .now) ≡ true
 room c = sym (c .before .has-room .ensures) ∙ not-false _ (c .if1 .left)
 
-has-room-requires : tie.Need-has-room-requires
-has-room-requires c κs = search needs
-
 returns : tie.Need-returns
 returns c = no-room _ _ _ (sym (c .before .has-room .ensures) ∙ not-true _ (c .if1 .taken))
 
@@ -23,23 +20,9 @@ returns-2 c = not-eight _ _ _ (room (c .before)) (c .if2 .taken)
 returns-3 : tie.Need-returns-3
 returns-3 c = no-mask _ _ _ (room (c .before .before)) (c .before .if2 .left) (c .if3 .taken)
 
-decode-requires : tie.Need-decode-requires
-decode-requires c κs = search needs
-
-fits-requires : tie.Need-fits-requires
-fits-requires c κs = search needs
-
 returns-4 : tie.Need-returns-4
 returns-4 c = by-fitting _ _ _ (room (c .before .before .before .before)) (c .before .before .before .if2 .left) (c .before .before .if3 .left) _ _ (c .before .decode .ensures .0) (c .fits2 .ensures)
 
 pub may-insert-spec : {M : Type 1} → statement M
-may-insert-spec =
-    tie.close
-    (tie.spec
-    has-room-requires
-    returns
-    returns-2
-    returns-3
-    decode-requires
-    fits-requires
-    returns-4)
+may-insert-spec = tie.close (tie.spec (λ c κs. search needs) returns returns-2 returns-3 (λ c κs. search needs)
+    (λ c κs. search needs) returns-4)

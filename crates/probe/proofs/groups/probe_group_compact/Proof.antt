@@ -13,23 +13,11 @@ use Rattle.probe.proofs.groups.probe_group_compact.Tie as tie
 is-group : (c : tie.Else1) → isSound (c .before .before .before .before .args .part .now) ≡ true
 is-group c = sym (c .before .is-sound .ensures) ∙ not-false _ (c .if1 .left)
 
-is-sound-requires : tie.Need-is-sound-requires
-is-sound-requires c κs = search needs
-
-same-length : tie.Need-same-length
-same-length c = search needs
-
 returns : tie.Need-returns
 returns c = not-compacted _ (sym (c .before .is-sound .ensures) ∙ not-true _ (c .if1 .taken))
 
 compact-requires : tie.Need-compact-requires
 compact-requires c κs = read-tidy 256 0 _ (sound _ (is-group (c .before))) (size _ (is-group (c .before)))
-
-cast-result : tie.Need-cast-result
-cast-result c = search needs
-
-same-length-2 : tie.Need-same-length-2
-same-length-2 c = search needs
 
 returns-2 : tie.Need-returns-2
 returns-2 c =
@@ -39,13 +27,5 @@ returns-2 c =
     compacted _ h _ _ (e .2 256 0 s) (e .1 256 0 _ (sound-held 256 0 _ s) s .1)
 
 pub probe-group-compact-spec : {M : Type 1} → statement M
-probe-group-compact-spec =
-    tie.close
-    (tie.spec
-    is-sound-requires
-    same-length
-    returns
-    compact-requires
-    cast-result
-    same-length-2
-    returns-2)
+probe-group-compact-spec = tie.close (tie.spec (λ c κs. search needs) (λ c. search needs) returns compact-requires
+    (λ c. search needs) (λ c. search needs) returns-2)

@@ -29,9 +29,6 @@ all-levels c =
     levels-bounded _ _ (is-group (c .before .before .before .before .before)) (c .before .before .before .before .if2 .left) (c .before .before .before .find .result) _ (c .before .before .before .find .ensures .1)
     (ap (λ (x : Hit). lookedOf x) (c .before .hit2 .given .1))
 
-is-sound-requires : tie.Need-is-sound-requires
-is-sound-requires c κs = search needs
-
 returns : tie.Need-returns
 returns c = not-sound _ _ (sym (c .before .is-sound .ensures) ∙ not-true _ (c .if1 .taken))
 
@@ -41,38 +38,17 @@ returns-2 c = not-below _ _ (is-group (c .before)) (c .if2 .taken)
 find-requires : tie.Need-find-requires
 find-requires c κs = (size _ (is-group (c .before)), sound-encodes 256 0 _ (sound _ (is-group (c .before))), c .if2 .left)
 
-enum-known-hit : tie.Need-enum-known-hit
-enum-known-hit c = search needs
-
-cast-result : tie.Need-cast-result
-cast-result c = search needs
-
 mul-result : tie.Need-mul-result
 mul-result c = omega (arith, levels c)
 
 add-result : tie.Need-add-result
 add-result c = omega (arith, levels c)
 
-cast-result-2 : tie.Need-cast-result-2
-cast-result-2 c = search needs
-
-mul-result-2 : tie.Need-mul-result-2
-mul-result-2 c = search needs
-
 add-result-2 : tie.Need-add-result-2
 add-result-2 c = omega (arith, levels (c .before))
 
-cast-result-3 : tie.Need-cast-result-3
-cast-result-3 c = search needs
-
 add-result-3 : tie.Need-add-result-3
 add-result-3 c = omega (arith, levels (c .before .before))
-
-enum-known-hit-2 : tie.Need-enum-known-hit-2
-enum-known-hit-2 c = search needs
-
-cast-result-4 : tie.Need-cast-result-4
-cast-result-4 c = search needs
 
 mul-result-3 : tie.Need-mul-result-3
 mul-result-3 c = omega (arith, all-levels c)
@@ -88,24 +64,6 @@ returns-4 c =
     found-nowhere _ _ (is-group (c .before .before .before .before .before)) (c .before .before .before .before .if2 .left) _ _ (f .0) (f .1) (c .before .hit2 .given .1)
 
 pub probe-group-find-spec : {M : Type 1} → statement M
-probe-group-find-spec =
-    tie.close
-    (tie.spec
-    is-sound-requires
-    returns
-    returns-2
-    find-requires
-    enum-known-hit
-    cast-result
-    mul-result
-    add-result
-    cast-result-2
-    mul-result-2
-    add-result-2
-    cast-result-3
-    add-result-3
-    enum-known-hit-2
-    cast-result-4
-    mul-result-3
-    returns-3
-    returns-4)
+probe-group-find-spec = tie.close (tie.spec (λ c κs. search needs) returns returns-2 find-requires (λ c. search needs)
+    (λ c. search needs) mul-result add-result (λ c. search needs) (λ c. search needs) add-result-2 (λ c. search needs)
+    add-result-3 (λ c. search needs) (λ c. search needs) mul-result-3 returns-3 returns-4)

@@ -12,12 +12,6 @@ use Rattle.probe.proofs.groups.probe_group_insert.Tie as tie
 may : (c : tie.Else1) → insertable (c .before .before .before .before .before .before .args .part .now) (c .before .before .before .before .before .before .args .eight .now) (c .before .before .before .before .before .before .args .mask .now) ≡ true
 may c = sym (c .before .may-insert .ensures) ∙ not-false _ (c .if1 .left)
 
-may-insert-requires : tie.Need-may-insert-requires
-may-insert-requires c κs = search needs
-
-same-length : tie.Need-same-length
-same-length c = search needs
-
 returns : tie.Need-returns
 returns c = not-inserted _ _ _ (sym (c .before .may-insert .ensures) ∙ not-true _ (c .if1 .taken))
 
@@ -30,25 +24,9 @@ insert-requires c κs = ready _ _ _ (may (c .before .before)) _ (c .before .deco
 record-count-requires : tie.Need-record-count-requires
 record-count-requires c κs = (c .before .before .before .insert .kept .0 ∙ has-size _ _ _ (may (c .before .before .before .before .before .before)), still-encodes _ _ _ (may (c .before .before .before .before .before .before)) _ (c .before .before .before .before .before .decode .ensures .0) _ (c .before .before .before .insert .ensures))
 
-cast-result : tie.Need-cast-result
-cast-result c = search needs
-
-same-length-2 : tie.Need-same-length-2
-same-length-2 c = search needs
-
 returns-2 : tie.Need-returns-2
 returns-2 c = inserted _ _ _ (may (c .before .before .before .before .before .before .before)) _ (c .before .before .before .before .before .before .decode .ensures .0) _ (c .before .before .before .before .insert .ensures) _ (c .record-count .ensures)
 
 pub probe-group-insert-spec : {M : Type 1} → statement M
-probe-group-insert-spec =
-    tie.close
-    (tie.spec
-    may-insert-requires
-    same-length
-    returns
-    decode-requires
-    insert-requires
-    record-count-requires
-    cast-result
-    same-length-2
-    returns-2)
+probe-group-insert-spec = tie.close (tie.spec (λ c κs. search needs) (λ c. search needs) returns decode-requires
+    insert-requires record-count-requires (λ c. search needs) (λ c. search needs) returns-2)

@@ -4,11 +4,8 @@ use borrow.Author.Needs.{needs}
 use Rattle.record.proofs.Record.end.Statement.{statement}
 use Rattle.record.proofs.Record.end.Tie as tie
 
-add-result : tie.Need-add-result
-add-result c = search needs
-
 returns : tie.Need-returns
 returns c = λ owned. refl
 
 pub end-spec : {M : Type 1} → statement M
-end-spec = tie.close (tie.spec add-result returns)
+end-spec = tie.close (tie.spec (λ c. search needs) returns)

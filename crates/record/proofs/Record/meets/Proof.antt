@@ -4,9 +4,6 @@ use borrow.Author.Needs.{needs}
 use Rattle.record.proofs.Record.meets.Statement.{statement}
 use Rattle.record.proofs.Record.meets.Tie as tie
 
-sub-result : tie.Need-sub-result
-sub-result c = search needs
-
 returns : tie.Need-returns
 returns c = λ L K. meets-above _ _ (c .before .before .before .if1 .taken)
 
@@ -14,4 +11,4 @@ returns-2 : tie.Need-returns-2
 returns-2 c = λ L K. meets-from _ _ (c .before .before .before .if1 .left)
 
 pub meets-spec : {M : Type 1} → statement M
-meets-spec = tie.close (tie.spec sub-result returns returns-2)
+meets-spec = tie.close (tie.spec (λ c. search needs) returns returns-2)

@@ -12,14 +12,8 @@ returns c = λ L e. sym e ∙ member-owned _ _ (c .if1 .taken)
 returns-2 : tie.Need-returns-2
 returns-2 c = λ L e. member-single _ _ (c .before .if2 .taken)
 
-covers-requires : tie.Need-covers-requires
-covers-requires c κs = search needs
-
 sub-result : tie.Need-sub-result
 sub-result c = covers-low _ _ (sym (c .before .before .covers .ensures []) ∙ c .before .if3 .taken)
-
-rem-result : tie.Need-rem-result
-rem-result c = search needs
 
 returns-3 : tie.Need-returns-3
 returns-3 c = λ L e. member-strided _ _ (c .before .before .before .if2 .left) (c .before .before .before .before .if1 .left) (sym (c .before .before .covers .ensures L) ∙ c .before .if3 .taken)
@@ -28,6 +22,5 @@ returns-4 : tie.Need-returns-4
 returns-4 c = λ L e. member-outside _ _ (c .before .before .if2 .left) (c .before .before .before .if1 .left) (sym (c .before .covers .ensures L) ∙ c .if3 .left)
 
 pub member-spec : {M : Type 1} → statement M
-member-spec =
-    tie.close
-    (tie.spec returns returns-2 covers-requires sub-result rem-result returns-3 returns-4)
+member-spec = tie.close (tie.spec returns returns-2 (λ c κs. search needs) sub-result (λ c. search needs) returns-3
+    returns-4)

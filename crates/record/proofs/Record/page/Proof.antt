@@ -19,18 +19,12 @@ fits c = record { sfits = c .predict .ok }
 is : (c : tie.After-predict) (L : List ℕ) → toZ w64 (ofZ w64 (c .predict .result)) ≡ predict (asRecord (c .before .args .self) L) (c .before .args .o)
 is c L = toZ-ofZ (fits c) ∙ c .predict .ensures L
 
-predict-requires : tie.Need-predict-requires
-predict-requires c κs = search needs
-
 returns : tie.Need-returns
 unfolding pageOf
 returns c = λ L. page-negative _ _ (c .if1 .taken) ∙ ap (existing _) (is (c .before) L)
 
 cast-p : tie.Need-cast-p
 cast-p c = page-cast _ (c .if1 .left) (sfits-toZ (fits-ofZ (fits (c .before))))
-
-cast-t8 : tie.Need-cast-t8
-cast-t8 c = search needs
 
 returns-2 : tie.Need-returns-2
 unfolding pageOf
@@ -41,4 +35,4 @@ unfolding pageOf
 returns-3 c = λ L. page-beyond _ _ (c .if2 .left) ∙ ap (existing _) (is (c .before .before) L)
 
 pub page-spec : {M : Type 1} → statement M
-page-spec = tie.close (tie.spec predict-requires returns cast-p cast-t8 returns-2 returns-3)
+page-spec = tie.close (tie.spec (λ c κs. search needs) returns cast-p (λ c. search needs) returns-2 returns-3)

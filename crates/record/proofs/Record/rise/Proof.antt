@@ -9,15 +9,6 @@ use Rattle.record.proofs.Record.rise.Tie as tie
 returns : tie.Need-returns
 returns c = λ L. rise-single _ _ (c .if1 .taken)
 
-sub-result : tie.Need-sub-result
-sub-result c = search needs
-
-add-result : tie.Need-add-result
-add-result c = search needs
-
-div-result : tie.Need-div-result
-div-result c = search needs
-
 returns-2 : tie.Need-returns-2
 returns-2 c = λ L. rise-strided _ _ (c .before .if1 .left) (c .if2 .taken)
 
@@ -35,6 +26,5 @@ returns-3 : tie.Need-returns-3
 returns-3 c = λ L. rise-sloped _ _ (c .if2 .left)
 
 pub rise-spec : {M : Type 1} → statement M
-rise-spec =
-    tie.close
-    (tie.spec returns sub-result add-result div-result returns-2 mul-result add-result-2 returns-3)
+rise-spec = tie.close (tie.spec returns (λ c. search needs) (λ c. search needs) (λ c. search needs) returns-2 mul-result
+    add-result-2 returns-3)

@@ -10,9 +10,6 @@ use borrow.Author.Needs.{needs}
 use Rattle.record.proofs.Record.shrink_accurate.Statement.{statement}
 use Rattle.record.proofs.Record.shrink_accurate.Tie as tie
 
-shrunk-requires : tie.Need-shrunk-requires
-shrunk-requires c κs = search needs
-
 returns : tie.Need-returns
 unfolding shrink
 returns c = c .shrunk .ensures [] _ (single-picks _ _ (c .before .if1 .taken))
@@ -22,9 +19,6 @@ rem-e c = omega (arith, even-of _ (c .before .before .before .pre .2))
 
 sub-e : tie.Need-sub-e
 sub-e c = mod-le _ _
-
-add-e : tie.Need-add-e
-add-e c = search needs
 
 shrunk-requires-2 : tie.Need-shrunk-requires-2
 shrunk-requires-2 c κs =
@@ -37,5 +31,5 @@ unfolding shrink
 returns-2 c = c .shrunk2 .ensures [] _ (strided-picks _ _ (c .before .before .before .if1 .left) (even-of _ (c .before .before .before .before .before .pre .2)))
 
 pub shrink-accurate-spec : {M : Type 1} → statement M
-shrink-accurate-spec =
-    tie.close (tie.spec shrunk-requires returns rem-e sub-e add-e shrunk-requires-2 returns-2)
+shrink-accurate-spec = tie.close (tie.spec (λ c κs. search needs) returns rem-e sub-e (λ c. search needs)
+    shrunk-requires-2 returns-2)

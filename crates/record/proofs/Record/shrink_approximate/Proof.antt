@@ -6,12 +6,9 @@ use borrow.Author.Needs.{needs}
 use Rattle.record.proofs.Record.shrink_approximate.Statement.{statement}
 use Rattle.record.proofs.Record.shrink_approximate.Tie as tie
 
-shrunk-requires : tie.Need-shrunk-requires
-shrunk-requires c κs = search needs
-
 returns : tie.Need-returns
 unfolding shrink
 returns c = λ L lost h. c .shrunk .ensures L _ (λ o k. owned-picks _ _ lost (odd-of _ (c .before .before .pre .1)) o k (h o k))
 
 pub shrink-approximate-spec : {M : Type 1} → statement M
-shrink-approximate-spec = tie.close (tie.spec shrunk-requires returns)
+shrink-approximate-spec = tie.close (tie.spec (λ c κs. search needs) returns)

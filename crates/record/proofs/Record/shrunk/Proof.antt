@@ -8,9 +8,6 @@ use borrow.Author.Needs.{needs}
 use Rattle.record.proofs.Record.shrunk.Statement.{statement}
 use Rattle.record.proofs.Record.shrunk.Tie as tie
 
-first-requires : tie.Need-first-requires
-first-requires c κs = search needs
-
 returns : tie.Need-returns
 unfolding leftOf
 returns c = λ L t is. none-left t _ _ _ _ (c .before .before .before .pre .4) is _ _ (c .before .first .ensures) (c .if1 .taken)
@@ -22,9 +19,6 @@ last-requires c κs =
     let h = c .if1 .left in
     (p .0, p .1, h, p .4, step-sub _ _ _ _ (f .0 .low) h (f .0 .step) (p .5), f .1 h)
 
-sub-span : tie.Need-sub-span
-sub-span c = search needs
-
 returns-2 : tie.Need-returns-2
 unfolding leftOf
 returns-2 c = λ L t is.
@@ -32,4 +26,4 @@ returns-2 c = λ L t is.
     (toZ-ofZ {w = w32} (record { sfits = c .struct-told .given .1 .1 .1 .0 .1 }))
 
 pub shrunk-spec : {M : Type 1} → statement M
-shrunk-spec = tie.close (tie.spec first-requires returns last-requires sub-span returns-2)
+shrunk-spec = tie.close (tie.spec (λ c κs. search needs) returns last-requires (λ c. search needs) returns-2)

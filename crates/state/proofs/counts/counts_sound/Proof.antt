@@ -36,9 +36,6 @@ returns c = within-not _ _ _ (c .before .before .count .ensures .0) _ (c .before
 add-k : tie.Need-add-k Inv-loop μ-loop
 add-k c = omega (arith, small _ (c .before .before .before .before .before .before .pre .limits) .blocks)
 
-loop-less : tie.Need-loop-less Inv-loop μ-loop
-loop-less c = omega arith
-
 loop-again : tie.Need-loop-again Inv-loop μ-loop
 loop-again c = (omega arith, within-on _ _ _ (c .before .before .count .ensures .0) _ (c .before .before .before .before .loop .inv .1) (taken (c .before .before .before)) (c .if1 .left))
 
@@ -47,15 +44,5 @@ unfolding countsWithin
 returns-2 c = within-end (readState (c .before .before .before .args .state .now)) _ _ (c .before .loop .inv .1) (left c)
 
 pub counts-sound-spec : {M : Type 1} → statement M
-counts-sound-spec =
-    tie.close
-    (tie.spec
-    Inv-loop
-    μ-loop
-    loop-holds
-    count-requires
-    returns
-    add-k
-    loop-less
-    loop-again
-    returns-2)
+counts-sound-spec = tie.close (tie.spec Inv-loop μ-loop loop-holds count-requires returns add-k (λ c. omega arith)
+    loop-again returns-2)

@@ -4,9 +4,6 @@ use borrow.Author.Needs.{needs}
 use Rattle.state.proofs.counts.free.Statement.{statement}
 use Rattle.state.proofs.counts.free.Tie as tie
 
-count-requires : tie.Need-count-requires
-count-requires c κs = search needs
-
 returns : tie.Need-returns
 returns c = free-one _ _ _ (c .before .count .ensures .0) (c .if1 .taken)
 
@@ -14,4 +11,4 @@ returns-2 : tie.Need-returns-2
 returns-2 c = free-none _ _ _ (c .before .count .ensures .0) (c .if1 .left)
 
 pub free-spec : {M : Type 1} → statement M
-free-spec = tie.close (tie.spec count-requires returns returns-2)
+free-spec = tie.close (tie.spec (λ c κs. search needs) returns returns-2)

@@ -35,9 +35,6 @@ add-n c = omega (arith, free-small _ _ _ (c .free .ensures), small _ (c .before 
 add-k : tie.Need-add-k Inv-loop μ-loop
 add-k c = omega (arith, small _ (c .before .before .before .before .pre .limits) .blocks)
 
-loop-less : tie.Need-loop-less Inv-loop μ-loop
-loop-less c = omega arith
-
 loop-again : tie.Need-loop-again Inv-loop μ-loop
 loop-again c = (omega arith, omega (arith, free-small _ _ _ (c .free .ensures)), free-next _ _ _ (c .free .ensures) _ (c .before .before .loop .inv .2) (taken c))
 
@@ -46,6 +43,5 @@ unfolding freeFrom
 returns c = free-all (readState (c .before .before .before .args .state .now)) _ _ (c .before .loop .inv .2) (left c)
 
 pub free-count-spec : {M : Type 1} → statement M
-free-count-spec =
-    tie.close
-    (tie.spec Inv-loop μ-loop loop-holds free-requires add-n add-k loop-less loop-again returns)
+free-count-spec = tie.close (tie.spec Inv-loop μ-loop loop-holds free-requires add-n add-k (λ c. omega arith) loop-again
+    returns)

@@ -37,9 +37,6 @@ returns c = lowest-here _ _ _ (c .before .count .ensures .0) (c .before .before 
 add-k : tie.Need-add-k Inv-loop μ-loop
 add-k c = omega (arith, small _ (c .before .before .before .before .before .pre .limits) .blocks)
 
-loop-less : tie.Need-loop-less Inv-loop μ-loop
-loop-less c = omega arith
-
 loop-again : tie.Need-loop-again Inv-loop μ-loop
 loop-again c = (omega arith, lowest-on _ _ _ (c .before .count .ensures .0) (c .before .before .before .loop .inv .1) (taken (c .before .before)) (c .if1 .left))
 
@@ -47,15 +44,5 @@ returns-2 : tie.Need-returns-2 Inv-loop μ-loop
 returns-2 c = lowest-end _ _ (c .before .loop .inv .1) (left c)
 
 pub lowest-free-spec : {M : Type 1} → statement M
-lowest-free-spec =
-    tie.close
-    (tie.spec
-    Inv-loop
-    μ-loop
-    loop-holds
-    count-requires
-    returns
-    add-k
-    loop-less
-    loop-again
-    returns-2)
+lowest-free-spec = tie.close (tie.spec Inv-loop μ-loop loop-holds count-requires returns add-k (λ c. omega arith)
+    loop-again returns-2)

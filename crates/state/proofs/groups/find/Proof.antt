@@ -9,18 +9,6 @@ use borrow.Author.Needs.{needs}
 use Rattle.state.proofs.groups.find.Statement.{statement}
 use Rattle.state.proofs.groups.find.Tie as tie
 
-group-place-requires : tie.Need-group-place-requires
-group-place-requires c κs = search needs
-
-group-end-requires : tie.Need-group-end-requires
-group-end-requires c κs = search needs
-
-sub-find : tie.Need-sub-find
-sub-find c = search needs
-
-part-find-start : tie.Need-part-find-start
-part-find-start c = search needs
-
 -- the part is group k's
 part : (c : tie.After-group-end) → Lent (c .before .before .before .args .state .now) (c .before .before .before .args .k) (c .before .group-place .result) (c .group-end .result)
 part c = lent _ _ (c .before .before .before .pre .0) _ _ _ (c .before .before .before .pre .1) (c .before .group-place .ensures) (c .group-end .ensures)
@@ -37,13 +25,5 @@ returns c =
     (c .find .ensures .0 ∙ ap (λ (x : Group). Option·map bare (holder (c .before .before .before .before .before .args .o) (listing x))) g, c .find .ensures .1 ∙ ap (levelsTo (c .before .before .before .before .before .args .o)) g)
 
 pub find-spec : {M : Type 1} → statement M
-find-spec =
-    tie.close
-    (tie.spec
-    group-place-requires
-    group-end-requires
-    sub-find
-    part-find-start
-    part-find-end
-    find-requires
-    returns)
+find-spec = tie.close (tie.spec (λ c κs. search needs) (λ c κs. search needs) (λ c. search needs) (λ c. search needs)
+    part-find-end find-requires returns)

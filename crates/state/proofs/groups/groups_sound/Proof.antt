@@ -40,9 +40,6 @@ returns c = unsound-here (readState (c .before .before .before .before .before .
 add-k : tie.Need-add-k Inv-loop μ-loop
 add-k c = omega (arith, small _ (c .before .before .before .before .before .before .pre .limits) .groups, c .before .before .before .before .group-count .ensures)
 
-loop-less : tie.Need-loop-less Inv-loop μ-loop
-loop-less c = omega arith
-
 loop-again : tie.Need-loop-again Inv-loop μ-loop
 loop-again c = (omega arith, sound-on _ _ _ _ (c .before .group-sound .ensures) (c .before .before .before .loop .inv .1) (taken (c .before .before)) (not-false (c .before .group-sound .result) (c .if1 .left)))
 
@@ -51,16 +48,5 @@ unfolding groupsSound
 returns-2 c = sound-end (readState (c .before .before .before .before .args .state .now)) _ _ (c .before .loop .inv .1) (left c)
 
 pub groups-sound-spec : {M : Type 1} → statement M
-groups-sound-spec =
-    tie.close
-    (tie.spec
-    Inv-loop
-    μ-loop
-    group-count-requires
-    loop-holds
-    group-sound-requires
-    returns
-    add-k
-    loop-less
-    loop-again
-    returns-2)
+groups-sound-spec = tie.close (tie.spec Inv-loop μ-loop group-count-requires loop-holds group-sound-requires returns
+    add-k (λ c. omega arith) loop-again returns-2)

@@ -6,15 +6,9 @@ use borrow.Author.Needs.{needs}
 use Rattle.state.proofs.numbers.count_place.Statement.{statement}
 use Rattle.state.proofs.numbers.count_place.Tie as tie
 
-mul-result : tie.Need-mul-result
-mul-result c = search needs
-
-add-result : tie.Need-add-result
-add-result c = search needs
-
 returns : tie.Need-returns
 unfolding countPlace headLength countLength
 returns c = refl
 
 pub count-place-spec : {M : Type 1} → statement M
-count-place-spec = tie.close (tie.spec mul-result add-result returns)
+count-place-spec = tie.close (tie.spec (λ c. search needs) (λ c. search needs) returns)

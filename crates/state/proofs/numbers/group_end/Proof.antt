@@ -8,9 +8,6 @@ use borrow.Author.Needs.{needs}
 use Rattle.state.proofs.numbers.group_end.Statement.{statement}
 use Rattle.state.proofs.numbers.group_end.Tie as tie
 
-group-place-requires : tie.Need-group-place-requires
-group-place-requires c κs = search needs
-
 add-result : tie.Need-add-result
 add-result c = omega (arith, group-small _ _ (c .before .pre .0) (c .before .pre .1), c .group-place .ensures)
 
@@ -19,4 +16,4 @@ unfolding groupLength
 returns c = ap (λ (p : ℕ). p + 5636) (c .group-place .ensures)
 
 pub group-end-spec : {M : Type 1} → statement M
-group-end-spec = tie.close (tie.spec group-place-requires add-result returns)
+group-end-spec = tie.close (tie.spec (λ c κs. search needs) add-result returns)

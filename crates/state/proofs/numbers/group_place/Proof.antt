@@ -9,9 +9,6 @@ use Rattle.state.proofs.numbers.group_place.Tie as tie
 count-place-requires : tie.Need-count-place-requires
 count-place-requires c κs = small _ (c .pre .0) .blocks
 
-mul-result : tie.Need-mul-result
-mul-result c = search needs
-
 add-result : tie.Need-add-result
 add-result c = omega (arith, group-from (numbersOf (c .before .args .d)) (c .before .args .k) _ (c .count-place .ensures), group-small _ _ (c .before .pre .0) (c .before .pre .1))
 
@@ -19,4 +16,4 @@ returns : tie.Need-returns
 returns c = group-from _ _ _ (c .count-place .ensures)
 
 pub group-place-spec : {M : Type 1} → statement M
-group-place-spec = tie.close (tie.spec count-place-requires mul-result add-result returns)
+group-place-spec = tie.close (tie.spec count-place-requires (λ c. search needs) add-result returns)

@@ -25,6 +25,4 @@ returns : tie.Need-returns
 returns c = numbers-read _ _ _ _ _ (c .before .before .before .get-u32 .ensures) (c .before .before .get-u322 .ensures) (c .before .get-u323 .ensures) (c .get-u324 .ensures)
 
 pub numbers-spec : {M : Type 1} → statement M
-numbers-spec =
-    tie.close
-    (tie.spec get-u32-requires get-u32-requires-2 get-u32-requires-3 get-u32-requires-4 returns)
+numbers-spec = tie.close (tie.spec get-u32-requires get-u32-requires-2 get-u32-requires-3 get-u32-requires-4 returns)

@@ -28,15 +28,6 @@ returns-5 c = outside _ (λ l. omega (arith, c .if5 .taken, l .least-N))
 returns-6 : tie.Need-returns-6
 returns-6 c = outside _ (λ l. omega (arith, c .if6 .taken, l .most-g))
 
-cast-result : tie.Need-cast-result
-cast-result c = search needs
-
-mul-result : tie.Need-mul-result
-mul-result c = search needs
-
-sub-result : tie.Need-sub-result
-sub-result c = search needs
-
 mul-result-2 : tie.Need-mul-result-2
 mul-result-2 c = omega (arith, room c)
 
@@ -47,18 +38,5 @@ returns-7 : tie.Need-returns-7
 returns-7 c = decided _ (c .before .before .before .before .before .before .before .before .before .before .before .before .before .if1 .left) (c .before .before .before .before .before .before .before .before .before .before .before .if2 .left) (c .before .before .before .before .before .before .before .before .before .if3 .left) (c .before .before .before .before .before .before .before .if4 .left) (c .before .before .before .before .before .if5 .left) (c .before .before .before .if6 .left)
 
 pub within-limits-spec : {M : Type 1} → statement M
-within-limits-spec =
-    tie.close
-    (tie.spec
-    returns
-    returns-2
-    returns-3
-    returns-4
-    returns-5
-    returns-6
-    cast-result
-    mul-result
-    sub-result
-    mul-result-2
-    cast-result-2
-    returns-7)
+within-limits-spec = tie.close (tie.spec returns returns-2 returns-3 returns-4 returns-5 returns-6 (λ c. search needs)
+    (λ c. search needs) (λ c. search needs) mul-result-2 cast-result-2 returns-7)

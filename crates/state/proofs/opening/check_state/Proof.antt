@@ -24,9 +24,6 @@ numbers-requires : tie.Need-numbers-requires
 unfolding headLength
 numbers-requires c κs = c .if1 .left
 
-within-limits-requires : tie.Need-within-limits-requires
-within-limits-requires c κs = search needs
-
 returns-2 : tie.Need-returns-2
 unfolding Opens refusalOf readState headLength
 returns-2 c = not-within (readState (c .before .before .before .before .before .args .state .now)) (c .before .before .before .if1 .left) (ap withinLimits (sym (c .before .before .numbers .ensures)) ∙ sym (c .before .within-limits .ensures) ∙ (not-true (c .before .within-limits .result) (c .if2 .taken)))
@@ -45,13 +42,5 @@ unfolding Opens readState
 returns-4 c = record { numbers = sym (c .before .before .before .before .numbers .ensures); limits = within (c .before .before); long = c .if3 .left ∙ c .before .state-len .ensures }
 
 pub check-state-spec : {M : Type 1} → statement M
-check-state-spec =
-    tie.close
-    (tie.spec
-    returns
-    numbers-requires
-    within-limits-requires
-    returns-2
-    state-len-requires
-    returns-3
-    returns-4)
+check-state-spec = tie.close (tie.spec returns numbers-requires (λ c κs. search needs) returns-2 state-len-requires
+    returns-3 returns-4)

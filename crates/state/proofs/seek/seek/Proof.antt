@@ -18,9 +18,6 @@ use Rattle.state.proofs.seek.seek.Tie as tie
 find-requires : tie.Need-find-requires
 find-requires c κs = (c .before .before .pre .0, group-inside _ _ (c .before .before .pre .2), c .before .before .pre .3, omega arith)
 
-enum-known-hit : tie.Need-enum-known-hit
-enum-known-hit c = search needs
-
 -- the record that was found
 hit : (c : tie.After-known-told) → some (c .before .hit .given .0 .0) ≡ Option·map bare (holder (offsetOf (c .before .before .before .before .before .before .args .page)) (listing (groupAt (readState (c .before .before .before .before .before .before .args .state .now)) (groupOf (c .before .before .before .before .before .before .args .page)))))
 unfolding foundOf
@@ -28,9 +25,6 @@ hit c = sym (ap foundOf (c .before .hit .given .1)) ∙ c .before .before .befor
 
 named-requires : tie.Need-named-requires
 named-requires c κs = (c .before .before .before .before .before .before .pre .0 .limits, c .before .before .before .before .before .before .pre .1, held-word _ _ _ _ (c .before .before .before .before .before .before .pre .3) _ (hit c))
-
-enum-known-hit-2 : tie.Need-enum-known-hit-2
-enum-known-hit-2 c = search needs
 
 returns : tie.Need-returns
 unfolding soughtOf lookedOf
@@ -41,6 +35,4 @@ unfolding soughtOf foundOf lookedOf
 returns-2 c = seek-none _ _ _ _ (c .before .before .before .before .before .before .pre .0 .numbers) _ (sym (ap foundOf (c .before .hit2 .given .1)) ∙ c .before .before .before .find .ensures .0) (sym (ap lookedOf (c .before .hit2 .given .1)) ∙ c .before .before .before .find .ensures .1)
 
 pub seek-spec : {M : Type 1} → statement M
-seek-spec =
-    tie.close
-    (tie.spec find-requires enum-known-hit named-requires enum-known-hit-2 returns returns-2)
+seek-spec = tie.close (tie.spec find-requires (λ c. search needs) named-requires (λ c. search needs) returns returns-2)

@@ -32,18 +32,6 @@ inside c = omega (arith, c .if1 .left, c .before .group-count .ensures)
 sound : (c : tie.Else2) → soundGroup (held (c .before .before .before .before .before) .N) (c .before .before .before .before .before .before .before .before .before .before .before .args .group) (groupAt (readState (c .before .before .before .before .before .before .before .before .before .before .before .args .state .now)) (c .before .before .before .before .before .before .before .before .before .before .before .args .group)) ≡ true
 sound c = sym (c .before .group-sound .ensures) ∙ not-false (c .before .group-sound .result) (c .if2 .left)
 
-check-state-requires : tie.Need-check-state-requires
-check-state-requires c κs = search needs
-
-enum-known-opened : tie.Need-enum-known-opened
-enum-known-opened c = search needs
-
-enum-known-opened-2 : tie.Need-enum-known-opened-2
-enum-known-opened-2 c = search needs
-
-same-length : tie.Need-same-length
-same-length c = search needs
-
 returns : tie.Need-returns
 unfolding compactAnswer
 returns c = (λ spare. compact-closed _ _ spare _ (answered-refusal _ _ _ (c .before .before .before .check-state .ensures) (c .before .opened2 .given .1)), stays-outside _ _ _)
@@ -51,18 +39,12 @@ returns c = (λ spare. compact-closed _ _ spare _ (answered-refusal _ _ _ (c .be
 group-count-requires : tie.Need-group-count-requires
 group-count-requires c κs = shape c .limits
 
-same-length-2 : tie.Need-same-length-2
-same-length-2 c = search needs
-
 returns-2 : tie.Need-returns-2
 unfolding compactAnswer refusalOf
 returns-2 c = (λ spare. compact-range _ _ spare _ (shape (c .before .before)) (omega (arith, c .if1 .taken, c .before .group-count .ensures)), stays-outside _ _ _)
 
 group-sound-requires : tie.Need-group-sound-requires
 group-sound-requires c κs = (shape (c .before .before .before), inside (c .before))
-
-same-length-3 : tie.Need-same-length-3
-same-length-3 c = search needs
 
 returns-3 : tie.Need-returns-3
 unfolding compactAnswer refusalOf
@@ -75,9 +57,6 @@ returns-3 c = (
 compact-group-requires : tie.Need-compact-group-requires
 compact-group-requires c κs = (shape (c .before .before .before .before .before .before), inside (c .before .before .before .before), sound (c .before))
 
-same-length-4 : tie.Need-same-length-4
-same-length-4 c = search needs
-
 returns-4 : tie.Need-returns-4
 unfolding compactAnswer
 returns-4 c =
@@ -87,20 +66,6 @@ returns-4 c =
     )
 
 pub compact-spec : {M : Type 1} → statement M
-compact-spec =
-    tie.close
-    (tie.spec
-    check-state-requires
-    enum-known-opened
-    enum-known-opened-2
-    same-length
-    returns
-    group-count-requires
-    same-length-2
-    returns-2
-    group-sound-requires
-    same-length-3
-    returns-3
-    compact-group-requires
-    same-length-4
-    returns-4)
+compact-spec = tie.close (tie.spec (λ c κs. search needs) (λ c. search needs) (λ c. search needs) (λ c. search needs)
+    returns group-count-requires (λ c. search needs) returns-2 group-sound-requires (λ c. search needs) returns-3
+    compact-group-requires (λ c. search needs) returns-4)

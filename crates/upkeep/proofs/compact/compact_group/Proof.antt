@@ -6,18 +6,6 @@ use borrow.Author.Needs.{needs}
 use Rattle.upkeep.proofs.compact.compact_group.Statement.{statement}
 use Rattle.upkeep.proofs.compact.compact_group.Tie as tie
 
-group-place-requires : tie.Need-group-place-requires
-group-place-requires c κs = search needs
-
-group-end-requires : tie.Need-group-end-requires
-group-end-requires c κs = search needs
-
-sub-compact : tie.Need-sub-compact
-sub-compact c = search needs
-
-part-compact-start : tie.Need-part-compact-start
-part-compact-start c = search needs
-
 -- the part is group k's
 part : (c : tie.After-group-end) → Lent (c .before .before .before .args .state .now) (c .before .before .before .args .k) (c .before .group-place .result) (c .group-end .result)
 part c = lent _ _ (c .before .before .before .pre .0) _ _ _ (c .before .before .before .pre .1) (c .before .group-place .ensures) (c .group-end .ensures)
@@ -27,9 +15,6 @@ part-compact-end c = omega (arith, part c .inside)
 
 compact-requires : tie.Need-compact-requires
 compact-requires c κs = part-tidy _ _ (c .before .before .before .before .pre .0) _ _ _ (c .before .before .before .before .pre .1) (c .before .before .group-place .ensures) (c .before .group-end .ensures) (c .before .before .before .before .pre .2)
-
-same-length : tie.Need-same-length
-same-length c = search needs
 
 returns : tie.Need-returns
 returns c =
@@ -42,14 +27,5 @@ returns c =
     )
 
 pub compact-group-spec : {M : Type 1} → statement M
-compact-group-spec =
-    tie.close
-    (tie.spec
-    group-place-requires
-    group-end-requires
-    sub-compact
-    part-compact-start
-    part-compact-end
-    compact-requires
-    same-length
-    returns)
+compact-group-spec = tie.close (tie.spec (λ c κs. search needs) (λ c κs. search needs) (λ c. search needs)
+    (λ c. search needs) part-compact-end compact-requires (λ c. search needs) returns)

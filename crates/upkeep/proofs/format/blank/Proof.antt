@@ -13,11 +13,8 @@ write-numbers-requires c κs = omega (arith, head-inside (numbersOf (c .before .
 clear-requires : tie.Need-clear-requires
 clear-requires c κs = omega (arith, head-inside (numbersOf (c .before .before .before .before .before .before .args .d)), c .before .before .before .before .before .before .pre .1, c .before .before .before .write-numbers .kept .0)
 
-same-length : tie.Need-same-length
-same-length c = search needs
-
 returns : tie.Need-returns
 returns c = blank-read _ _ _ _ (c .before .before .before .before .before .before .before .before .before .pre .0) (c .before .before .before .before .before .before .before .before .before .pre .1) (c .before .before .before .before .before .before .write-numbers .ensures) (c .before .before .clear .ensures)
 
 pub blank-spec : {M : Type 1} → statement M
-blank-spec = tie.close (tie.spec write-numbers-requires clear-requires same-length returns)
+blank-spec = tie.close (tie.spec write-numbers-requires clear-requires (λ c. search needs) returns)

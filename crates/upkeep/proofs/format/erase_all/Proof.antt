@@ -24,28 +24,12 @@ erase-requires c κs = (c .before .before .before .before .pre .0, c .before .be
 add-k : tie.Need-add-k Inv-loop μ-loop
 add-k c = omega (arith, small _ (c .before .before .before .before .before .before .before .pre .0) .blocks)
 
-loop-less : tie.Need-loop-less Inv-loop μ-loop
-loop-less c = omega arith
-
 loop-again : tie.Need-loop-again Inv-loop μ-loop
 loop-again c = (omega arith, omega (arith, c .before .before .erase .kept .0), blank-more _ _ _ _ (c .before .before .before .before .before .loop .inv .1 ∙ c .before .before .before .before .before .before .before .pre .1) (c .before .before .before .before .loop-test .taken) (c .before .before .before .before .before .loop .inv .2) (c .before .before .erase .ensures))
-
-same-length : tie.Need-same-length Inv-loop μ-loop
-same-length c = omega arith
 
 returns : tie.Need-returns Inv-loop μ-loop
 returns c = blank-all _ _ _ (c .before .loop .inv .1 ∙ c .before .before .before .pre .1) (omega arith) (c .before .loop .inv .2)
 
 pub erase-all-spec : {M : Type 1} → statement M
-erase-all-spec =
-    tie.close
-    (tie.spec
-    Inv-loop
-    μ-loop
-    loop-holds
-    erase-requires
-    add-k
-    loop-less
-    loop-again
-    same-length
-    returns)
+erase-all-spec = tie.close (tie.spec Inv-loop μ-loop loop-holds erase-requires add-k (λ c. omega arith) loop-again
+    (λ c. omega arith) returns)

@@ -24,9 +24,6 @@ long c = c .if2 .left ∙ c .before .state-len .ensures
 fits : (c : tie.Else3) → length (c .before .before .before .before .before .before .before .before .args .spare .now) ≡ spareLength (asked (c .before .before .before .before .before .before .before .before))
 fits c = c .if3 .left ∙ c .before .spare-len .ensures
 
-within-limits-requires : tie.Need-within-limits-requires
-within-limits-requires c κs = search needs
-
 returns : tie.Need-returns
 unfolding formatAnswer refusalOf
 returns c = format-numbers _ _ _ (sym (c .before .within-limits .ensures) ∙ not-true (c .before .within-limits .result) (c .if1 .taken))
@@ -51,28 +48,10 @@ blank-requires c κs = (within (c .before .before .before .before .before), long
 erase-all-requires : tie.Need-erase-all-requires
 erase-all-requires c κs = (within (c .before .before .before .before .before .before .before .before .before), fits (c .before .before .before .before .before))
 
-same-length : tie.Need-same-length
-same-length c = search needs
-
-same-length-2 : tie.Need-same-length-2
-same-length-2 c = search needs
-
 returns-4 : tie.Need-returns-4
 unfolding formatAnswer refusalOf
 returns-4 c = format-done _ _ _ (within (c .before .before .before .before .before .before .before .before .before .before .before .before)) (long (c .before .before .before .before .before .before .before .before .before .before)) (fits (c .before .before .before .before .before .before .before .before)) _ _ (c .before .before .before .before .before .before .blank .ensures) (c .before .before .erase-all .ensures)
 
 pub format-spec : {M : Type 1} → statement M
-format-spec =
-    tie.close
-    (tie.spec
-    within-limits-requires
-    returns
-    state-len-requires
-    returns-2
-    spare-len-requires
-    returns-3
-    blank-requires
-    erase-all-requires
-    same-length
-    same-length-2
-    returns-4)
+format-spec = tie.close (tie.spec (λ c κs. search needs) returns state-len-requires returns-2 spare-len-requires
+    returns-3 blank-requires erase-all-requires (λ c. search needs) (λ c. search needs) returns-4)

@@ -22,19 +22,9 @@ put-u32-requires-4 : tie.Need-put-u32-requires-4
 unfolding headLength
 put-u32-requires-4 c κs = omega arith
 
-same-length : tie.Need-same-length
-same-length c = search needs
-
 returns : tie.Need-returns
 returns c = head-stores _ _ _ _ _ _ (c .before .before .before .before .before .before .before .before .before .before .before .before .before .before .put-u32 .ensures) (c .before .before .before .before .before .before .before .before .before .before .put-u322 .ensures) (c .before .before .before .before .before .before .put-u323 .ensures) (c .before .before .put-u324 .ensures)
 
 pub write-numbers-spec : {M : Type 1} → statement M
-write-numbers-spec =
-    tie.close
-    (tie.spec
-    put-u32-requires
-    put-u32-requires-2
-    put-u32-requires-3
-    put-u32-requires-4
-    same-length
-    returns)
+write-numbers-spec = tie.close (tie.spec put-u32-requires put-u32-requires-2 put-u32-requires-3 put-u32-requires-4
+    (λ c. search needs) returns)

@@ -11,9 +11,6 @@ use Rattle.writing.proofs.block.write_block.Tie as tie
 within : (c : tie.Start) → Limits (numbersOf (c .args .d))
 within c = limits _ (c .pre .0 .0 .limits)
 
-cast-n : tie.Need-cast-n
-cast-n c = search needs
-
 mul-first : tie.Need-mul-first
 mul-first c = omega (arith, room _ _ (c .before .before .before .before .before .before .pre .0 .0) _ (c .before .before .before .before .before .before .pre .0 .4) 0 (omega arith))
 
@@ -38,21 +35,6 @@ take-in-all-requires c κs =
       ),
     )
 
-program-block-requires : tie.Need-program-block-requires
-program-block-requires c κs = search needs
-
-store-front-requires : tie.Need-store-front-requires
-store-front-requires c κs = search needs
-
-same-length : tie.Need-same-length
-same-length c = search needs
-
-same-length-2 : tie.Need-same-length-2
-same-length-2 c = search needs
-
-same-length-3 : tie.Need-same-length-3
-same-length-3 c = search needs
-
 returns : tie.Need-returns
 returns c =
     let at-start = c .before .before .before .before .before .before .before .before .before .before .before .before .before .before .before .before .before .before .before .before .before .before in (
@@ -61,16 +43,5 @@ returns c =
     )
 
 pub write-block-spec : {M : Type 1} → statement M
-write-block-spec =
-    tie.close
-    (tie.spec
-    cast-n
-    mul-first
-    set-count-requires
-    take-in-all-requires
-    program-block-requires
-    store-front-requires
-    same-length
-    same-length-2
-    same-length-3
-    returns)
+write-block-spec = tie.close (tie.spec (λ c. search needs) mul-first set-count-requires take-in-all-requires
+    (λ c κs. search needs) (λ c κs. search needs) (λ c. search needs) (λ c. search needs) (λ c. search needs) returns)
