@@ -7,11 +7,10 @@ use mathlib.Core.Bool.{Bool, true, not, _&&_}
 use Prim.Native.Nat.{ℕ, zero, suc, _<_}
 use native.Mathlib.Omega.{arith}
 use Rattle.model.specs.State.{State}
-use Rattle.model.proofs.Bools.{and-i, neither}
-use Rattle.calls.specs.Refusals.{notNamed, Check, _when_}
-use Rattle.calls.specs.Outcome.{accepted, number}
+use Rattle.model.proofs.Bools.{and-i}
+use Rattle.calls.specs.Refusals.{notNamed, Check, _when_, firstRefusal}
 use Rattle.calls.specs.Lookup.{seek}
-use Rattle.calls.specs.Agreement.{eachBelow, isNamed, allNamed, stateChecks, agreeChecks, agrees, agreeAnswer, agree}
+use Rattle.calls.specs.Agreement.{eachBelow, isNamed, allNamed, soundChecks, agreeChecks}
 use Rattle.calls.proofs.Refusing.{Clear, is-clear}
 use Rattle.calls.proofs.Invariant.{Inv}
 use Rattle.calls.proofs.Found.{seek-found, seek-nowhere}
@@ -32,21 +31,19 @@ all-named s spare place v = each-below (s .device .N) _ (λ x b. go x b (place x
     go x b (some p) e = ap isNamed (seek-found s spare place v x p (v .placed x p b e) .sought)
 
 -- the checks of one of the two states
-state-clear : (s : State) (spare : List ℕ) (place : ℕ → Option ℕ) → Inv s spare place → Clear (stateChecks s spare)
-unfolding stateChecks
-state-clear s spare place v = (numbers-there s spare place v, (neither _ _ (state-right s spare place v) (spare-right s spare place v), (ap not (v .sound), tt)))
+state-clear : (s : State) (spare : List ℕ) (place : ℕ → Option ℕ) → Inv s spare place → Clear (soundChecks s spare)
+state-clear s spare place v = (numbers-there s spare place v, (state-right s spare place v, (spare-right s spare place v, (ap not (v .sound), tt))))
 
 both-clear : (cs ds : List Check) → Clear cs → Clear ds → Clear (cs ++ ds)
 both-clear [] ds c d = d
 both-clear (x ∷ cs) ds c d = (c .0, both-clear cs ds (c .1) d)
 
--- An agreement of two such states is accepted.
-pub agree-accepted : (s : State) (spare : List ℕ) (place : ℕ → Option ℕ) → Inv s spare place → (s′ : State) (spare′ : List ℕ) (place′ : ℕ → Option ℕ) → Inv s′ spare′ place′
-    → accepted (agree s spare s′ spare′) ≡ true
-unfolding agree agreeChecks agreeAnswer accepted number
-agree-accepted s spare place v s′ spare′ place′ v′ =
-    ap (λ o. accepted (agreeAnswer o (agrees s spare s′ spare′)))
-    (is-clear (agreeChecks s spare s′ spare′)
-    (both-clear (stateChecks s spare ++ stateChecks s′ spare′) (notNamed when not (allNamed s spare && allNamed s′ spare′) ∷ [])
-    (both-clear (stateChecks s spare) (stateChecks s′ spare′) (state-clear s spare place v) (state-clear s′ spare′ place′ v′))
-    (ap not (and-i _ _ (all-named s spare place v) (all-named s′ spare′ place′ v′)), tt)))
+-- An agreement of two such states is not refused.
+pub agree-clear : (s : State) (spare : List ℕ) (place : ℕ → Option ℕ) → Inv s spare place → (s′ : State) (spare′ : List ℕ) (place′ : ℕ → Option ℕ) → Inv s′ spare′ place′
+    → firstRefusal (agreeChecks s spare s′ spare′) ≡ none
+unfolding agreeChecks
+agree-clear s spare place v s′ spare′ place′ v′ =
+    is-clear (agreeChecks s spare s′ spare′)
+    (both-clear (soundChecks s spare ++ soundChecks s′ spare′) (notNamed when not (allNamed s spare && allNamed s′ spare′) ∷ [])
+    (both-clear (soundChecks s spare) (soundChecks s′ spare′) (state-clear s spare place v) (state-clear s′ spare′ place′ v′))
+    (ap not (and-i _ _ (all-named s spare place v) (all-named s′ spare′ place′ v′)), tt))

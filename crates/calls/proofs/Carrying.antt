@@ -21,7 +21,7 @@ use Rattle.model.proofs.Limits.{page-block}
 use Rattle.model.proofs.Sorting.{no-source, sorted-source, source-at, logicals-length, sources-length}
 use Rattle.calls.specs.Book.{Arrival, writeOf, Book, lastWrite, noEntry, flushEntry, among, carriedFlush, lastOr, lastFlush, enter}
 use Rattle.calls.specs.PageMap.{PageMap, spot, writeCounts, mapWrite}
-use Rattle.calls.proofs.Moves.{Ready}
+use Rattle.calls.proofs.Moves.{Writable}
 use Rattle.calls.proofs.Placing.{Spot, elsewhere, there, spot-view, first-of}
 use Rattle.calls.proofs.MapInvariant.{MapInv}
 use Rattle.calls.proofs.MapWriting.{off-free}
@@ -77,7 +77,7 @@ latest-at x i (y ∷ l) j e = go (latest x (suc i) l) (eqb x y) refl e (latest-a
         (omega arith, rw n (sym (eqb-true x y q)))
     go none false q f ih = let z : _≡_ {A = ℕ} 0 1 = cc in absurd (omega arith)
 
-module _ (m : PageMap) (v : MapInv m) (b : Book) (c : Kept b m) (batch plan : List ℕ) (r : Ready (m .device) (sorted batch))
+module _ (m : PageMap) (v : MapInv m) (b : Book) (c : Kept b m) (batch plan : List ℕ) (r : Writable (m .device) (sorted batch))
     (filled : 1 ≤ length (sorted batch)) (f : 1 ≤ length (freeBlocks 0 (m .counts))) (l : length plan ≡ m .device .B) where
   abbrev ws : List Write
   ws = sorted batch

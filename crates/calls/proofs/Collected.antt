@@ -21,7 +21,7 @@ use Rattle.calls.specs.Choice.{Used, blocksOf, firstOf}
 use Rattle.calls.specs.Collection.{victims, moves, moveAll, eraseBlock, eraseBlocks, listErased, firstMoved, collectDone}
 use Rattle.calls.specs.PageMap.{PageMap, spot, mapVictims, mapMoves, writeCounts, mapWrite, clearCounts}
 use Rattle.calls.proofs.Naming.{victims-same, moves-same}
-use Rattle.calls.proofs.Moves.{Ready}
+use Rattle.calls.proofs.Moves.{Writable}
 use Rattle.calls.proofs.MapInvariant.{owner-names}
 use Rattle.calls.proofs.MapCollecting.{moves-fit, taken-used, moved-off}
 use Rattle.calls.proofs.Invariant.{Lies, Inv}
@@ -47,7 +47,7 @@ moved-rest [] x = record { device = refl; counts = refl; plan = sym (store-nil (
 moved-rest (w ∷ ws) x = rest (moveAll (w ∷ ws) x)
 
 -- They keep the invariant.
-pub moved-inv : (ws : List Write) (x : Lent) (place : ℕ → Option ℕ) → Inv (x .state) (x .spare) place → Ready (x .state .device) ws
+pub moved-inv : (ws : List Write) (x : Lent) (place : ℕ → Option ℕ) → Inv (x .state) (x .spare) place → Writable (x .state .device) ws
     → (1 ≤ length ws → 1 ≤ length (freeBlocks 0 (x .state .counts))) → Inv (moveAll ws x .state) (moveAll ws x .spare) (mapWrite ws (mapOf (x .state) place) .place)
 unfolding moveAll writeBlock mapWrite firstOf logicals spot
 moved-inv [] x place v r f = v

@@ -4,25 +4,27 @@ use mathlib.Core.Option.{some}
 use mathlib.Core.Logic.{_≢_}
 use Prim.Native.Nat.{ℕ}
 use borrow.Author.Tests.{eq-eqb, ne-eqb}
-use Rattle.calls.specs.Outcome.{found, accepted}
+use Rattle.calls.specs.Outcome.{found, accepted, Outcome}
 use Rattle.calls.specs.Lookup.{reads}
 use Rattle.calls.specs.Book.{Arrival, Book, lastWrite}
-use Rattle.calls.specs.History.{run}
+use Rattle.calls.specs.Agreement.{agreeDone}
+use Rattle.calls.specs.History.{lentTo, checksOf, effect, run}
 use Rattle.calls.specs.Demand3.{pageMaps, definitions, agreementOf, Right, written, Demand3}
 use Rattle.calls.proofs.MapDemand.{map-demand}
 use Rattle.calls.proofs.Simulation.{from-format, carry}
 use Rattle.calls.proofs.Refining.{Shows, refines}
-use Rattle.calls.proofs.Agreeing.{agree-accepted}
+use Rattle.calls.proofs.Agreeing.{agree-clear}
+use Rattle.calls.proofs.Decided.{unless-accepts}
 
 -- Demand 3, of the definitions.
 pub definitions-demand : Demand3 definitions agreementOf
-unfolding run
+unfolding run lentTo checksOf effect agreeDone accepted
 definitions-demand = record {
   after = carry definitions pageMaps Shows refines map-demand;
   agreements = λ g h f f′ i a i′ made.
       let k = from-format definitions pageMaps Shows refines g f .2 in
       let l = from-format definitions pageMaps Shows refines h f′ .2 in
-      ap accepted (made .answered) ∙ agree-accepted (g .state) (g .spare) _ (k .inv) (h .state) (h .spare) _ (l .inv);
+      ap accepted (made .answered ∙ ap (λ (o : Outcome). o .answer) (unless-accepts _ _ _ (agree-clear (g .state) (g .spare) _ (k .inv) (h .state) (h .spare) _ (l .inv))));
 }
 
 -- "with one flash read where the prediction is right and two where it isn't": by the values of an answer that is right

@@ -20,10 +20,10 @@ use Rattle.calls.specs.History.{flushCall}
 use Rattle.calls.specs.PageMap.{PageMap, mapChecks}
 use Rattle.calls.specs.Demand3.{Fits}
 use Rattle.calls.proofs.Refusing.{goes-on, right-length, length-is}
-use Rattle.calls.proofs.Moves.{Ready}
+use Rattle.calls.proofs.Moves.{Writable}
 
 -- A block can take a batch that fits ..
-pub batch-ready : (d : Device) (batch plan : List ℕ) → Fits d batch plan → Ready d (sorted batch)
+pub batch-ready : (d : Device) (batch plan : List ℕ) → Fits d batch plan → Writable d (sorted batch)
 unfolding sorted
 batch-ready d batch plan f = record {
   fits = omega (arith, sorted-length batch, f .short);

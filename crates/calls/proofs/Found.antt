@@ -23,7 +23,7 @@ use Rattle.model.proofs.Limits.{limits, page-inside, page-block, page-split, N-
 use Rattle.model.proofs.Holder.{met-none, met-some, predict-line}
 use Rattle.model.proofs.Image.{image-middle}
 use Rattle.model.proofs.PageNamed.{page-named}
-use Rattle.calls.specs.Lookup.{at, nowhere, unnamed, soughtNamed, soughtAt, soughtBy, seek}
+use Rattle.calls.specs.Lookup.{at, nowhere, unnamed, lookedNamed, lookedAt, lookedBy, seek}
 use Rattle.calls.specs.Collection.{gives, valid}
 use Rattle.calls.specs.PageMap.{PageMap}
 use Rattle.calls.proofs.Naming.{Names}
@@ -62,7 +62,7 @@ module _ (s : State) (spare : List ℕ) (place : ℕ → Option ℕ) (v : Inv s 
 
   -- A logical page that lies on page p is found there.
   pub seek-found : (x p : ℕ) (l : Lies s image x p) → Answers x p l
-  unfolding seek soughtBy soughtAt soughtNamed
+  unfolding seek lookedBy lookedAt lookedNamed
   seek-found x p l =
       let q : ℕ = firstPage (s .device) (l .block) + l .near in
       let fits : length (image (l .block)) ≤ s .device .B = image-fits (l .block) (l .inside) in
@@ -78,18 +78,18 @@ module _ (s : State) (spare : List ℕ) (place : ℕ → Option ℕ) (v : Inv s 
       record {
         levels = n;
         sought =
-            ap (soughtBy (s .device) spare x n) (m .1)
-            ∙ ap (soughtAt (s .device) spare x n) z
-            ∙ ap (λ (t : Bool). elim t [ true ↦ soughtNamed n q (pageNamed (s .device) spare q x) | false ↦ unnamed ]) exists
-            ∙ ap (soughtNamed n q) named
+            ap (lookedBy (s .device) spare x n) (m .1)
+            ∙ ap (lookedAt (s .device) spare x n) z
+            ∙ ap (λ (t : Bool). elim t [ true ↦ lookedNamed n q (pageNamed (s .device) spare q x) | false ↦ unnamed ]) exists
+            ∙ ap (lookedNamed n q) named
             ∙ ap (λ (y : ℕ). at y q n) (sym (l .page));
       }
 
   -- A logical page that lies nowhere is not found.
   pub seek-nowhere : (x : ℕ) → x < s .device .N → place x ≡ none → seek s spare x ≡ nowhere (levelsTo (offsetOf x) (groupAt s (groupOf x)))
-  unfolding seek soughtBy
+  unfolding seek lookedBy
   seek-nowhere x h e =
-      ap (soughtBy (s .device) spare x (levelsTo (offsetOf x) (groupAt s (groupOf x)))) (met-none (offsetOf x) (listing (groupAt s (groupOf x))) (v .unplaced x h e))
+      ap (lookedBy (s .device) spare x (levelsTo (offsetOf x) (groupAt s (groupOf x)))) (met-none (offsetOf x) (listing (groupAt s (groupOf x))) (v .unplaced x h e))
 
   -- A page on which a logical page lies is valid, and a valid page is one on which its logical page lies.
   pub valid-names : Names (s .device .N) place (valid s spare) (middle (s .device) spare)

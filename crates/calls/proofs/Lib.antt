@@ -24,4 +24,5 @@ pub mod Passing
 pub mod Refining
 pub mod Agreeing
 pub mod PredictedPage
+pub mod Bounds
 pub mod Demand3

@@ -19,9 +19,9 @@ use Rattle.model.proofs.Blocks.{lowest-free}
 use Rattle.model.proofs.Limits.{limits, page-block}
 use Rattle.model.proofs.Sorting.{logicals-length}
 use Rattle.calls.specs.Choice.{Used, blocksOf, pagesOf, firstOf, noGain}
-use Rattle.calls.specs.PageMap.{PageMap, isSome, ownerOf, mapVictims, mapMoves, writeCounts, mapWrite, clearCounts, mapErase}
+use Rattle.calls.specs.PageMap.{PageMap, isSome, logicalOn, mapVictims, mapMoves, writeCounts, mapWrite, clearCounts, mapErase}
 use Rattle.calls.proofs.Choosing.{victim-used, victims-distinct}
-use Rattle.calls.proofs.Moves.{Ready, moves-ready, not-moved, moves-taken}
+use Rattle.calls.proofs.Moves.{Writable, moves-ready, not-moved, moves-taken}
 use Rattle.calls.proofs.Placing.{Spot, elsewhere, there, spot-view, first-of}
 use Rattle.calls.proofs.MapInvariant.{MapInv, owner-names}
 use Rattle.calls.proofs.MapWriting.{write-map, erase-map, clear-free, write-free, write-used}
@@ -46,15 +46,15 @@ module _ (m : PageMap) (v : MapInv m) where
   ks = blocksOf (mapVictims m)
 
   -- A block can take what is moved.
-  pub moves-fit : Ready (m .device) (mapMoves m)
+  pub moves-fit : Writable (m .device) (mapMoves m)
   moves-fit = moves-ready (m .device) (m .place) _ _ (owner-names m v) (m .counts)
 
   -- A block that is taken is a used one of the device.
   pub taken-used : (k : ℕ) → elem k ks ≡ true → (k < length (m .counts)) × (getD (m .counts) k 0 ≢ 0)
-  taken-used = victim-used (λ p. isSome (ownerOf m p)) (m .device) (m .counts)
+  taken-used = victim-used (λ p. isSome (logicalOn m p)) (m .device) (m .counts)
 
   taken-distinct : distinct ks ≡ true
-  taken-distinct = victims-distinct (λ p. isSome (ownerOf m p)) (m .device) (m .counts)
+  taken-distinct = victims-distinct (λ p. isSome (logicalOn m p)) (m .device) (m .counts)
 
   -- No more blocks are taken than there are.
   pub taken-fit : length ks ≤ m .device .M

@@ -13,14 +13,14 @@ use borrow.Author.Tests.{ltb-true, le-ltb, lt-leb}
 use Rattle.model.specs.Device.{Device}
 use Rattle.model.specs.State.{freeBlocks}
 use Rattle.model.specs.Sound.{isEmpty}
-use Rattle.model.proofs.Bools.{and-r, is-false, neither}
+use Rattle.model.proofs.Bools.{and-r, is-false}
 use Rattle.calls.specs.Refusals.{Refusal, notSound, notNamed, noFreeBlock, refusalNumber, _when_, firstRefusal}
-use Rattle.calls.specs.Outcome.{Answer, refused, number, accepted}
+use Rattle.calls.specs.Outcome.{Answer, refused, accepted}
 use Rattle.calls.specs.Choice.{noGain}
-use Rattle.calls.specs.History.{Call, formatCall, flushCall, lookupCall, collectCall, compactCall, agreeCall}
-use Rattle.calls.specs.PageMap.{PageMap, mapVictims, mapMoves, mapWrite, mapErase, mapChecks, MapAnswers, formats, flushes, finds, misses, collects, compacts, agrees, noLists, mapDone, MapPast, mapIdle, mapAfter, MapMakes, refuses, accepts, others}
+use Rattle.calls.specs.History.{Call, formatCall, flushCall, lookupCall, collectCall, compactCall, agreeCall, listCall}
+use Rattle.calls.specs.PageMap.{PageMap, mapVictims, mapMoves, mapWrite, mapErase, mapChecks, MapAnswers, formats, flushes, finds, misses, collects, compacts, agrees, lists, noLists, mapDone, MapPast, mapIdle, mapAfter, MapMakes, refuses, accepts, others}
 use Rattle.calls.specs.Demand3 as demands
-use Rattle.calls.specs.Demand3.{pageMaps, Right, unwritten, written, Fits, Between, aLookup, aCompaction, anAgreement, aRefusal, onDevice, Leads, Waits, FromFormat, Helped, AfterFormat}
+use Rattle.calls.specs.Demand3.{pageMaps, Right, unwritten, written, Fits, Between, aLookup, aCompaction, anAgreement, aListing, aRefusal, onDevice, Leads, Waits, FromFormat, Helped, AfterFormat}
 use Rattle.calls.proofs.Refusing.{Stopped, stops, is-clear, stopped, none-some, right-length, refused-not-accepted}
 use Rattle.calls.proofs.Gain.{gain}
 use Rattle.calls.proofs.MapInvariant.{owner-names}
@@ -30,7 +30,7 @@ use Rattle.calls.proofs.MapHolding.{MapHolds, makes-holds, starts-hold}
 
 -- the answers of accepted calls are accepted
 answers-accepted : (m : PageMap) (c : Call) (a : Answer) → MapAnswers m c a → accepted a ≡ true
-unfolding accepted number
+unfolding accepted
 answers-accepted m c a (formats d) = refl
 answers-accepted m c a (flushes batch plan) = refl
 answers-accepted m c a (finds x p q n e) = refl
@@ -38,6 +38,7 @@ answers-accepted m c a (misses x n e) = refl
 answers-accepted m c a (collects plan erased) = refl
 answers-accepted m c a (compacts k n) = refl
 answers-accepted m c a (agrees s spare s′ spare′ t) = refl
+answers-accepted m c a (lists k out n) = refl
 
 -- no refusal is such an answer
 no-refusal : (m : PageMap) (c : Call) (a : Answer) (r : Refusal) → MapAnswers m c a → a ≡ refused r → ⊥
@@ -57,6 +58,7 @@ unfolding mapDone noLists
 idles m c a (aLookup x _) t = refl
 idles m c a (aCompaction k _) t = refl
 idles m c a (anAgreement s spare s′ spare′ _) t = refl
+idles m c a (aListing k out _) t = refl
 idles m c a (aRefusal _ _ r) t = absurd (true≢false (sym t ∙ r))
 
 between-same : (h : MapPast) (c : Call) (a : Answer) (h′ : MapPast) → Between c a → MapMakes h c a h′ → h′ .map ≡ h .map
@@ -107,7 +109,7 @@ module _ (h : MapPast) (v : MapHolds h) where
   collect-passes : (plan erased : List ℕ) → length plan ≡ m .device .B → length erased ≡ m .device .M → free ≡ 1 → (sized : Bool) → firstRefusal (mapChecks sized (collectCall plan erased) m) ≡ none
   unfolding mapChecks
   collect-passes plan erased p e n sized =
-      is-clear _ (neither _ _ (right-length plan (m .device .B) p) (right-length erased (m .device .M) e), (gains n, (has-room, tt)))
+      is-clear _ (right-length plan (m .device .B) p, (right-length erased (m .device .M) e, (gains n, (has-room, tt))))
 
   -- where two are free, a flush that fits is
   flush-passes : (batch plan : List ℕ) → Fits (m .device) batch plan → 2 ≤ free → (sized : Bool) → firstRefusal (mapChecks sized (flushCall batch plan) m) ≡ none
@@ -138,9 +140,10 @@ module _ (h : MapPast) (v : MapHolds h) where
   unchecked sized (formatCall d) = (λ s. s .1 .1, λ s. s .1 .1)
   unchecked sized (flushCall batch plan) = (λ s. s .1 .1 .1 .1, λ s. s .1 .1 .1 .1)
   unchecked sized (lookupCall x) = (λ s. s .1, λ s. s .1)
-  unchecked sized (collectCall plan erased) = (λ s. s .1 .1 .1, λ s. s .1 .1 .1)
+  unchecked sized (collectCall plan erased) = (λ s. s .1 .1 .1 .1, λ s. s .1 .1 .1 .1)
   unchecked sized (compactCall k) = (λ s. s .1, λ s. s .1)
   unchecked sized (agreeCall s spare s′ spare′) = (λ s. s, λ s. s)
+  unchecked sized (listCall k out) = (λ s. s .1 .1, λ s. s .1 .1)
 
   never : (c : Call) (a : Answer) (h′ : MapPast) → onDevice c ≡ true → MapMakes h c a h′ → (a ≢ refused notSound) × (a ≢ refused notNamed)
   unfolding onDevice
@@ -153,7 +156,7 @@ module _ (h : MapPast) (v : MapHolds h) where
   room : (plan erased : List ℕ) (a : Answer) (h′ : MapPast) → MapMakes h (collectCall plan erased) a h′ → a ≢ refused noFreeBlock
   unfolding mapChecks refusalNumber
   room plan erased a h′ (accepts sized _ _ e p) q = no-refusal m _ a noFreeBlock p q
-  room plan erased a h′ (refuses sized _ r e) q = let z : r ≡ noFreeBlock = cc in full (stopped noFreeBlock _ (rw z at e) .1 .1)
+  room plan erased a h′ (refuses sized _ r e) q = let z : r ≡ noFreeBlock = cc in full (stopped noFreeBlock _ (rw z at e) .1 .1 .1)
     where
       full : ((not (isEmpty (mapMoves m)) && isEmpty (freeBlocks 0 (m .counts))) ≡ true) ⊎ (((not (isEmpty (mapMoves m)) && isEmpty (freeBlocks 0 (m .counts))) ≡ false) × ⊥) → ⊥
       full (inl t) = true≢false (sym t ∙ has-room)

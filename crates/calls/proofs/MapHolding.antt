@@ -11,18 +11,17 @@ use borrow.Author.Tests.{ltb-false, not-false}
 use Rattle.model.specs.Device.{Device, withinLimits}
 use Rattle.model.specs.Learning.{sorted}
 use Rattle.model.specs.State.{freeBlocks}
-use Rattle.model.proofs.Bools.{or-none}
 use Rattle.model.proofs.Lists.{store-front}
 use Rattle.model.proofs.Limits.{limits}
-use Rattle.calls.specs.Refusals.{firstRefusal, wrongLength}
+use Rattle.calls.specs.Refusals.{firstRefusal}
 use Rattle.calls.specs.Outcome.{Answer, number, accepted, values, formatted}
 use Rattle.calls.specs.Choice.{blocksOf}
 use Rattle.calls.specs.Book.{writeOf, enter}
 use Rattle.calls.specs.History.{Call, formatCall, flushCall, collectCall, value, acceptedEntry, entryOf}
-use Rattle.calls.specs.PageMap.{PageMap, mapVictims, mapWrite, blankMap, mapChecks, mapDone, MapPast, mapIdle, mapAfter, MapMakes, refuses, accepts, others, noLists, MapAnswers, formats, flushes, finds, misses, collects, compacts, agrees}
+use Rattle.calls.specs.PageMap.{PageMap, mapVictims, mapWrite, blankMap, mapChecks, mapDone, MapPast, mapIdle, mapAfter, MapMakes, refuses, accepts, others, noLists, MapAnswers, formats, flushes, finds, misses, collects, compacts, agrees, lists}
 use Rattle.calls.specs.Demand3.{Fits}
 use Rattle.calls.proofs.Refusing.{clears, length-is, refused-not-accepted}
-use Rattle.calls.proofs.Moves.{Ready}
+use Rattle.calls.proofs.Moves.{Writable}
 use Rattle.calls.proofs.Fitting.{batch-ready, batch-filled, fits-of}
 use Rattle.calls.proofs.MapInvariant.{MapInv}
 use Rattle.calls.proofs.MapWriting.{blank-map, write-map, write-free}
@@ -71,7 +70,7 @@ flush-holds sized batch plan a h v e (flushes _ _) =
     let f : Fits (h .map .device) batch plan = fits-of (h .map .device) batch plan (p .0) (p .1 .0) (p .1 .1 .0) in
     let free : 2 ≤ length (freeBlocks 0 (h .map .counts)) = ltb-false (length (freeBlocks 0 (h .map .counts))) 2 (p .1 .1 .1 .0) in
     let one : 1 ≤ length (freeBlocks 0 (h .map .counts)) = omega arith in
-    let r : Ready (h .map .device) (sorted batch) = batch-ready (h .map .device) batch plan f in
+    let r : Writable (h .map .device) (sorted batch) = batch-ready (h .map .device) batch plan f in
     record {
       inv = write-map (h .map) (v .inv) (sorted batch) r (λ n. one);
       free = omega (arith, write-free (sorted batch) (h .map .counts) (λ n. one));
@@ -85,12 +84,11 @@ unfolding mapChecks mapAfter mapDone entryOf acceptedEntry accepted number value
 collect-holds sized plan erased a h v e (collects _ _) =
     let m : PageMap = h .map in
     let p = clears _ e in
-    let l = or-none (wrongLength plan (m .device .B)) (wrongLength erased (m .device .M)) (p .0) in
-    let fits : length (blocksOf (mapVictims m)) ≤ length erased = omega (arith, taken-fit m (v .inv), length-is erased (m .device .M) (l .1)) in
+    let fits : length (blocksOf (mapVictims m)) ≤ length erased = omega (arith, taken-fit m (v .inv), length-is erased (m .device .M) (p .1 .0)) in
     record {
       inv = collect-map m (v .inv) (λ n. v .free);
-      free = omega (arith, collect-free m (v .inv) (λ n. v .free) (v .free) (p .1 .0));
-      kept = rw (store-front erased (blocksOf (mapVictims m)) fits) (collect-kept m (v .inv) (h .book) (v .kept) plan (v .free) (length-is plan (m .device .B) (l .0)));
+      free = omega (arith, collect-free m (v .inv) (λ n. v .free) (v .free) (p .1 .1 .0));
+      kept = rw (store-front erased (blocksOf (mapVictims m)) fits) (collect-kept m (v .inv) (h .book) (v .kept) plan (v .free) (length-is plan (m .device .B) (p .0)));
     }
 
 -- A call that is accepted keeps all.
@@ -104,6 +102,7 @@ accepted-holds sized c a h v e (misses x n f) = idle-holds h v
 accepted-holds sized c a h v e (collects plan erased) = collect-holds sized plan erased a h v e (collects plan erased)
 accepted-holds sized c a h v e (compacts k n) = idle-holds h v
 accepted-holds sized c a h v e (agrees s spare s′ spare′ t) = idle-holds h v
+accepted-holds sized c a h v e (lists k out n) = idle-holds h v
 
 -- Every call keeps all.
 pub makes-holds : (h : MapPast) (c : Call) (a : Answer) (h′ : MapPast) → MapHolds h → MapMakes h c a h′ → MapHolds h′

@@ -11,7 +11,7 @@ use borrow.Author.Tests.{eqb-true, eq-eqb}
 use Rattle.model.specs.Lists.{orElse}
 use Rattle.model.specs.Device.{withinLimits}
 use Rattle.model.proofs.Lists.{le-cases}
-use Rattle.calls.specs.PageMap.{PageMap, isAt, lyingOn, ownerOf, isSome, orZero}
+use Rattle.calls.specs.PageMap.{PageMap, isAt, lyingOn, logicalOn, isSome, orZero}
 use Rattle.calls.proofs.Naming.{Names}
 
 -- The invariant: the device is within its limits and has a count for each block; a logical page lies on a page below the count of
@@ -49,14 +49,14 @@ lying-every place p x (suc n) y h k e = go (isAt p (place x)) refl (le-cases x y
     go false q (inr j) ih = ih j
 
 -- The map's own test and name fit it.
-pub owner-names : (m : PageMap) → MapInv m → Names (m .device .N) (m .place) (λ p. isSome (ownerOf m p)) (λ p. orZero (ownerOf m p))
-unfolding ownerOf isSome orZero
-owner-names m v = record { only = λ p. only p (ownerOf m p) refl; every = λ x p h e. every x p h e (ownerOf m p) refl }
+pub owner-names : (m : PageMap) → MapInv m → Names (m .device .N) (m .place) (λ p. isSome (logicalOn m p)) (λ p. orZero (logicalOn m p))
+unfolding logicalOn isSome orZero
+owner-names m v = record { only = λ p. only p (logicalOn m p) refl; every = λ x p h e. every x p h e (logicalOn m p) refl }
   where
-    only : (p : ℕ) (o : Option ℕ) → ownerOf m p ≡ o → isSome o ≡ true → (orZero o < m .device .N) × (m .place (orZero o) ≡ some p)
+    only : (p : ℕ) (o : Option ℕ) → logicalOn m p ≡ o → isSome o ≡ true → (orZero o < m .device .N) × (m .place (orZero o) ≡ some p)
     only p none q h = absurd (true≢false (sym h))
     only p (some y) q h = let l = lying-only (m .place) p 0 (m .device .N) y q in (omega (arith, l .0), l .1)
 
-    every : (x p : ℕ) → x < m .device .N → m .place x ≡ some p → (o : Option ℕ) → ownerOf m p ≡ o → (isSome o ≡ true) × (orZero o ≡ x)
+    every : (x p : ℕ) → x < m .device .N → m .place x ≡ some p → (o : Option ℕ) → logicalOn m p ≡ o → (isSome o ≡ true) × (orZero o ≡ x)
     every x p h e none q = absurd (true≢false (sym (lying-every (m .place) p 0 (m .device .N) x (omega arith) (omega arith) e) ∙ ap isSome q))
     every x p h e (some y) q = let l = lying-only (m .place) p 0 (m .device .N) y q in (refl, v .alone y x p (omega (arith, l .0)) h (l .1) e)

@@ -21,7 +21,7 @@ use Rattle.model.proofs.Limits.{page-block, page-split}
 use Rattle.model.proofs.Sorting.{logicals-length}
 use Rattle.calls.specs.Choice.{firstOf}
 use Rattle.calls.specs.PageMap.{PageMap, spot, writeCounts, mapWrite, clearCounts, mapErase, blankMap}
-use Rattle.calls.proofs.Moves.{Ready}
+use Rattle.calls.proofs.Moves.{Writable}
 use Rattle.calls.proofs.Placing.{Spot, elsewhere, there, spot-view}
 use Rattle.calls.proofs.MapInvariant.{MapInv}
 
@@ -40,7 +40,7 @@ module _ (m : PageMap) (v : MapInv m) where
   pub off-free : (k : ℕ) → getD (m .counts) k 0 ≡ 0 → (x p : ℕ) → x < m .device .N → m .place x ≡ some p → p / m .device .B ≢ k
   off-free k z x p h e q = absurd (omega (arith, v .written x p h e, ap (λ (j : ℕ). getD (m .counts) j 0) q))
 
-  module _ (ws : List Write) (r : Ready (m .device) ws) (f : 1 ≤ length (freeBlocks 0 (m .counts))) where
+  module _ (ws : List Write) (r : Writable (m .device) ws) (f : 1 ≤ length (freeBlocks 0 (m .counts))) where
     abbrev k : ℕ
     k = lowestIn (m .counts)
 
@@ -86,7 +86,7 @@ module _ (m : PageMap) (v : MapInv m) where
             sym d ∙ ap (λ (l : ℕ). getD (logicals ws) l 0) s ∙ c
 
   -- Writes on the lowest-numbered free block keep the invariant; none is needed for none.
-  pub write-map : (ws : List Write) → Ready (m .device) ws → (1 ≤ length ws → 1 ≤ length (freeBlocks 0 (m .counts))) → MapInv (mapWrite ws m)
+  pub write-map : (ws : List Write) → Writable (m .device) ws → (1 ≤ length ws → 1 ≤ length (freeBlocks 0 (m .counts))) → MapInv (mapWrite ws m)
   unfolding mapWrite writeCounts firstOf logicals spot
   write-map [] r f = v
   write-map (w ∷ ws) r f = filled (w ∷ ws) r (f (omega arith))

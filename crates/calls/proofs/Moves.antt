@@ -22,7 +22,7 @@ use Rattle.calls.proofs.Choosing.{page-taken, taken-page, pages-fit}
 use Rattle.calls.proofs.Naming.{Names}
 
 -- What a block takes: writes that fit it, ascend, and name existing logical pages.
-pub record Ready (d : Device) (ws : List Write) : Type 0 where
+pub record Writable (d : Device) (ws : List Write) : Type 0 where
   pub fits : length ws ≤ d .B
   pub ascends : Asc 0 (logicals ws)
   pub logical : (x : ℕ) → elem x (logicals ws) ≡ true → x < d .N
@@ -91,7 +91,7 @@ module _ (d : Device) (place : ℕ → Option ℕ) (valid : ℕ → Bool) (name 
   moves-taken = omega (arith, sort-length (map (copyBy name) (pagesOf vs)), length-map (pagesOf vs) (copyBy name))
 
   -- A block can take the moves.
-  pub moves-ready : Ready d mv
+  pub moves-ready : Writable d mv
   moves-ready = record {
     fits = omega (arith, moves-taken, pages-fit valid d counts);
     ascends = moves-asc;

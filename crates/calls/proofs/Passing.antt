@@ -1,7 +1,7 @@
 -- While the invariant holds, a call is never refused for device numbers, the lengths of state and spare area, or soundness: its first
 -- refusal is the page map's. Assumes nothing.
 use mathlib.Core.Path.{_≡_, refl, ap}
-use mathlib.Core.List.{List}
+use mathlib.Core.List.{List, []}
 use mathlib.Core.Option.{Option}
 use mathlib.Core.Bool.{Bool, true, false, not, _||_}
 use Prim.Native.Nat.{ℕ}
@@ -9,38 +9,43 @@ use native.Mathlib.Omega.{arith}
 use lib.Dec.{eqb}
 use borrow.Author.Tests.{eq-eqb, le-ltb}
 use Rattle.model.specs.Lists.{orElse}
-use Rattle.model.specs.Device.{Device, headLength, stateLength, spareLength, groupOf}
+use Rattle.model.specs.Device.{Device, withinLimits, headLength, regions, regionsLength, stateLength, spareLength, groupOf}
 use Rattle.model.specs.State.{State, groupAt}
 use Rattle.model.specs.Sound.{soundState, soundGroup}
 use Rattle.model.proofs.Bools.{and-l, neither}
 use Rattle.model.proofs.SoundGroups.{group-sound}
-use Rattle.calls.specs.Refusals.{firstRefusal, wrongLength, numbersMissing, wrongState, wrongSpare}
+use Rattle.calls.specs.Refusals.{Refusal, badNumbers, badLength, firstRefusal, wrongLength, numbersMissing, wrongState, wrongSpare}
 use Rattle.calls.specs.Format.{formatChecks}
 use Rattle.calls.specs.Flush.{flushChecks}
 use Rattle.calls.specs.Lookup.{lookupChecks}
 use Rattle.calls.specs.Collection.{collectChecks}
 use Rattle.calls.specs.Compaction.{compactChecks}
-use Rattle.calls.specs.History.{formatCall, flushCall, lookupCall, collectCall, compactCall, lend}
+use Rattle.calls.specs.Listing.{listChecks}
+use Rattle.calls.specs.Outcome.{withOut}
+use Rattle.calls.specs.History.{formatCall, flushCall, lookupCall, collectCall, compactCall, listCall, lend}
 use Rattle.calls.specs.PageMap.{PageMap, mapChecks}
 use Rattle.calls.proofs.Refusing.{right-length}
 use Rattle.calls.proofs.Invariant.{Inv}
 use Rattle.calls.proofs.Found.{mapOf}
 use Rattle.calls.proofs.Collected.{same-victims, same-moves}
 
-not-not : (t : Bool) → not (not t) ≡ t
-not-not true = refl
-not-not false = refl
+-- two checks for one refusal are one
+joined : (a b : Bool) (r : Refusal) (later : Option Refusal) → orElse a r (orElse b r later) ≡ orElse (not (not (a || b))) r later
+unfolding orElse
+joined true b r later = refl
+joined false true r later = refl
+joined false false r later = refl
 
 -- A format is refused by the numbers it is given and the two lengths.
-pub format-checks : (d : Device) (s : State) (spare plan erased : List ℕ) (m : PageMap)
-    → firstRefusal (formatChecks d (lend s spare plan erased)) ≡ firstRefusal (mapChecks (not (not (eqb (s .bytes) (stateLength d)) || wrongLength spare (spareLength d))) (formatCall d) m)
+pub format-checks : (d : Device) (s : State) (spare : List ℕ) (m : PageMap)
+    → firstRefusal (formatChecks d (lend s spare [] [])) ≡ firstRefusal (mapChecks (not (not (eqb (s .bytes) (stateLength d)) || wrongLength spare (spareLength d))) (formatCall d) m)
 unfolding formatChecks mapChecks lend firstRefusal
-format-checks d s spare plan erased m = rw not-not
+format-checks d s spare m = ap (orElse (not (withinLimits d)) badNumbers) (joined _ _ badLength _)
 
 module _ (s : State) (spare : List ℕ) (place : ℕ → Option ℕ) (v : Inv s spare place) where
   -- The device numbers are there ..
   pub numbers-there : numbersMissing s ≡ false
-  unfolding numbersMissing stateLength headLength
+  unfolding numbersMissing stateLength regionsLength regions headLength
   numbers-there = neither _ _ (le-ltb (s .bytes) headLength (omega (arith, v .bytes))) (ap not (v .limits))
 
   -- .. state and spare area have the lengths they give ..
@@ -61,19 +66,24 @@ module _ (s : State) (spare : List ℕ) (place : ℕ → Option ℕ) (v : Inv s 
   m = mapOf s place
 
   -- A flush refuses first what the map's refuses first ..
-  pub flush-checks : (batch plan erased : List ℕ) → firstRefusal (flushChecks batch (lend s spare plan erased)) ≡ firstRefusal (mapChecks true (flushCall batch plan) m)
+  pub flush-checks : (batch plan : List ℕ) → firstRefusal (flushChecks batch (lend s spare plan [])) ≡ firstRefusal (mapChecks true (flushCall batch plan) m)
   unfolding flushChecks mapChecks lend firstRefusal orElse
-  flush-checks batch plan erased = rw (numbers-there, state-right, spare-right, v .sound)
+  flush-checks batch plan = rw (numbers-there, state-right, spare-right, v .sound)
 
   -- .. and so does a lookup ..
-  pub lookup-checks : (x : ℕ) (plan erased : List ℕ) → firstRefusal (lookupChecks x (lend s spare plan erased)) ≡ firstRefusal (mapChecks true (lookupCall x) m)
+  pub lookup-checks : (x : ℕ) → firstRefusal (lookupChecks x (lend s spare [] [])) ≡ firstRefusal (mapChecks true (lookupCall x) m)
   unfolding lookupChecks mapChecks lend firstRefusal orElse
-  lookup-checks x plan erased = rw (numbers-there, state-right, spare-right, sound-group (groupOf x))
+  lookup-checks x = rw (numbers-there, state-right, spare-right, sound-group (groupOf x))
 
   -- .. a compaction ..
-  pub compact-checks : (k : ℕ) (plan erased : List ℕ) → firstRefusal (compactChecks k (lend s spare plan erased)) ≡ firstRefusal (mapChecks true (compactCall k) m)
+  pub compact-checks : (k : ℕ) → firstRefusal (compactChecks k (lend s spare [] [])) ≡ firstRefusal (mapChecks true (compactCall k) m)
   unfolding compactChecks mapChecks lend firstRefusal orElse
-  compact-checks k plan erased = rw (numbers-there, state-right, sound-group k)
+  compact-checks k = rw (numbers-there, state-right, sound-group k)
+
+  -- .. a listing ..
+  pub list-checks : (k : ℕ) (out : List ℕ) → firstRefusal (listChecks k (withOut out (lend s spare [] []))) ≡ firstRefusal (mapChecks true (listCall k out) m)
+  unfolding listChecks mapChecks lend firstRefusal orElse
+  list-checks k out = rw (numbers-there, state-right, sound-group k)
 
   -- .. and a collection, whose choice is the map's.
   pub collect-checks : (plan erased : List ℕ) → firstRefusal (collectChecks (lend s spare plan erased)) ≡ firstRefusal (mapChecks true (collectCall plan erased) m)

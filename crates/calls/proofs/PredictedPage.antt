@@ -15,8 +15,8 @@ use Rattle.model.specs.Spare.{entry, middle, names, lowestNaming, pageNamed}
 use Rattle.model.specs.Levels.{listing, holder, levelsTo}
 use Rattle.model.specs.State.{State, groupAt}
 use Rattle.calls.specs.Refusals.{firstRefusal, wrongLength, wrongSpare}
-use Rattle.calls.specs.Lookup.{unnamed, soughtNamed, soughtAt, soughtBy, seek, answerOf, lookupChecks, lookup}
-use Rattle.calls.specs.History.{lend, run}
+use Rattle.calls.specs.Lookup.{unnamed, lookedNamed, lookedAt, lookedBy, seek, answerOf, lookupChecks, lookupDone}
+use Rattle.calls.specs.History.{lend, lentTo, checksOf, effect, run}
 use Rattle.calls.specs.Demand3.{Predicted, NoOtherPage}
 use Rattle.calls.proofs.Decided.{unless-alike}
 
@@ -38,7 +38,7 @@ module _ (d : Device) (spare spare′ : List ℕ) (p x : ℕ) (same : (j : ℕ) 
 seek-same : (s : State) (spare spare′ : List ℕ) (x : ℕ)
     → ((p j : ℕ) → Predicted s x p → j < namesPerPage (s .device) → entry (s .device) spare p j ≡ entry (s .device) spare′ p j)
     → seek s spare x ≡ seek s spare′ x
-unfolding seek soughtBy soughtAt
+unfolding seek lookedBy lookedAt
 seek-same s spare spare′ x same = go (holder (offsetOf x) (listing (groupAt s (groupOf x)))) refl
   where
     d : Device
@@ -47,13 +47,13 @@ seek-same s spare spare′ x same = go (holder (offsetOf x) (listing (groupAt s 
     n : ℕ
     n = levelsTo (offsetOf x) (groupAt s (groupOf x))
 
-    at-page : (r : Record) → holder (offsetOf x) (listing (groupAt s (groupOf x))) ≡ some r → (z : ℤ) → predict r (offsetOf x) ≡ z → soughtAt d spare x n z ≡ soughtAt d spare′ x n z
+    at-page : (r : Record) → holder (offsetOf x) (listing (groupAt s (groupOf x))) ≡ some r → (z : ℤ) → predict r (offsetOf x) ≡ z → lookedAt d spare x n z ≡ lookedAt d spare′ x n z
     at-page r e (pos p) q =
-        ap (λ (o : Option ℕ). elim (ltb p (pages d)) [ true ↦ soughtNamed n p o | false ↦ unnamed ])
+        ap (λ (o : Option ℕ). elim (ltb p (pages d)) [ true ↦ lookedNamed n p o | false ↦ unnamed ])
         (page-same d spare spare′ p x (λ j. same p j (record { holding = r; holds = e; predicts = q })))
     at-page r e (negsuc m) q = refl
 
-    go : (o : Option Record) → holder (offsetOf x) (listing (groupAt s (groupOf x))) ≡ o → soughtBy d spare x n o ≡ soughtBy d spare′ x n o
+    go : (o : Option Record) → holder (offsetOf x) (listing (groupAt s (groupOf x))) ≡ o → lookedBy d spare x n o ≡ lookedBy d spare′ x n o
     go none e = refl
     go (some r) e = at-page r e (predict r (offsetOf x)) refl
 
@@ -64,5 +64,5 @@ checks-same s spare spare′ x e = rw e refl
 
 -- "no other page's entries may decide the answer"
 pub no-other-page : NoOtherPage
-unfolding run lookup lend
+unfolding run lentTo checksOf effect lookupDone lend
 no-other-page s spare spare′ x e same = unless-alike _ _ _ _ _ _ (checks-same s spare spare′ x e) (ap answerOf (seek-same s spare spare′ x same))

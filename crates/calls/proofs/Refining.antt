@@ -12,17 +12,18 @@ use Rattle.model.specs.Device.{Device, withinLimits, firstPage}
 use Rattle.model.specs.Learning.{Write, sorted}
 use Rattle.model.specs.State.{State, withGroups, freeBlocks, lowestIn, lowestFree}
 use Rattle.model.specs.Sound.{isEmpty}
-use Rattle.calls.specs.Refusals.{Refusal, Check, firstRefusal}
-use Rattle.calls.specs.Outcome.{Lent, Answer, flushed, refused, accepted, Outcome, unless}
-use Rattle.calls.specs.Format.{blankState, format, formatChecks, formatDone}
-use Rattle.calls.specs.Flush.{writeBlock, flush, flushDone}
-use Rattle.calls.specs.Lookup.{seek, answerOf, lookup}
-use Rattle.calls.specs.Collection.{moveAll, collect, collectDone}
-use Rattle.calls.specs.Compaction.{compaction, compactDone, compactGroup}
-use Rattle.calls.specs.Agreement.{agree, agreeAnswer, agreeChecks, agrees}
+use Rattle.calls.specs.Refusals.{Refusal, firstRefusal}
+use Rattle.calls.specs.Outcome.{Lent, withOut, Answer, flushed, refused, accepted, Outcome}
+use Rattle.calls.specs.Format.{blankState, formatChecks, formatDone}
+use Rattle.calls.specs.Flush.{writeBlock, flushDone}
+use Rattle.calls.specs.Lookup.{seek, answerOf, lookupDone}
+use Rattle.calls.specs.Collection.{moveAll, collectDone}
+use Rattle.calls.specs.Compaction.{compactDone, compactGroup}
+use Rattle.calls.specs.Agreement.{agreeDone}
+use Rattle.calls.specs.Listing.{listDone}
 use Rattle.calls.specs.Book.{Entry, noEntry, enter}
-use Rattle.calls.specs.History.{Call, formatCall, flushCall, lookupCall, collectCall, compactCall, agreeCall, lend, run, acceptedEntry, entryOf, Past, pastAfter, step}
-use Rattle.calls.specs.PageMap.{PageMap, mapMoves, mapWrite, mapErase, blankMap, mapChecks, MapAnswers, formats, flushes, finds, misses, collects, compacts, noLists, mapDone, MapPast, mapIdle, mapAfter, MapMakes, others}
+use Rattle.calls.specs.History.{Call, formatCall, flushCall, lookupCall, collectCall, compactCall, agreeCall, listCall, lend, lentTo, checksOf, effect, run, acceptedEntry, entryOf, Past, pastAfter, step}
+use Rattle.calls.specs.PageMap.{PageMap, mapMoves, mapWrite, mapErase, blankMap, mapChecks, MapAnswers, formats, flushes, finds, misses, collects, compacts, lists, noLists, mapDone, MapPast, mapIdle, mapAfter, MapMakes, others}
 use Rattle.calls.specs.PageMap as maps
 use Rattle.calls.specs.Demand3.{pageMaps, Defined, definitions}
 use Rattle.calls.proofs.Refusing.{clears, refused-not-accepted}
@@ -32,7 +33,7 @@ use Rattle.calls.proofs.Found.{mapOf, seek-found, seek-nowhere}
 use Rattle.calls.proofs.Keeping.{format-inv, compact-inv}
 use Rattle.calls.proofs.Collected.{Rest, rest, moved-rest, moved-inv, collectBy, collect-same, collect-rest, collect-inv}
 use Rattle.calls.proofs.Decided.{Decided, refuses, accepts, decided}
-use Rattle.calls.proofs.Passing.{format-checks, flush-checks, lookup-checks, compact-checks, collect-checks}
+use Rattle.calls.proofs.Passing.{format-checks, flush-checks, lookup-checks, compact-checks, list-checks, collect-checks}
 use Rattle.calls.proofs.Simulation.{Simulates}
 
 -- State, spare area and book show a page map with its book.
@@ -54,6 +55,17 @@ beside m h = record { map = m; book = h .book }
 refused-entry : (c : Call) (r : Refusal) (plan erased : List ℕ) → entryOf c (refused r) plan erased ≡ noEntry
 unfolding entryOf
 refused-entry c r plan erased = ap (λ (t : Bool). elim t [ true ↦ acceptedEntry c (refused r) plan erased | false ↦ noEntry ]) (refused-not-accepted r)
+
+-- a call is lent the state and the spare area as they are
+lent-same : (c : Call) (s : State) (spare : List ℕ) → (lentTo c s spare .state ≡ s) × (lentTo c s spare .spare ≡ spare)
+unfolding lentTo lend
+lent-same (formatCall d) s spare = (refl, refl)
+lent-same (flushCall batch plan) s spare = (refl, refl)
+lent-same (lookupCall x) s spare = (refl, refl)
+lent-same (collectCall plan erased) s spare = (refl, refl)
+lent-same (compactCall k) s spare = (refl, refl)
+lent-same (agreeCall a sa b sb) s spare = (refl, refl)
+lent-same (listCall k out) s spare = (refl, refl)
 
 -- an accepted call: the map accepts it with this answer, and what is left shows what the map leaves
 done : (c : Call) (h : Past) (m : PageMap) (out : Outcome) (sized : Bool) → firstRefusal (mapChecks sized c m) ≡ none → MapAnswers m c (out .answer)
@@ -89,21 +101,30 @@ module _ (h : Past) (place : ℕ → Option ℕ) (v : Inv (h .state) (h .spare) 
   m = mapOf (h .state) place
 
   -- a refused call changes nothing
-  idle : (c : Call) (r : Refusal) (plan erased : List ℕ) → Shows (pastAfter c (record { answer = refused r; after = lend (h .state) (h .spare) plan erased }) (h .book)) (mapIdle (beside m h))
-  unfolding lend pastAfter mapIdle
-  idle c r plan erased = record { device = refl; counts = refl; inv = v; book = ap (λ (n : Entry). enter n (h .book)) (refused-entry c r plan erased) }
+  idle : (c : Call) (r : Refusal) → Shows (pastAfter c (record { answer = refused r; after = lentTo c (h .state) (h .spare) }) (h .book)) (mapIdle (beside m h))
+  unfolding pastAfter mapIdle
+  idle c r =
+      let x : Lent = lentTo c (h .state) (h .spare) in
+      let same = lent-same c (h .state) (h .spare) in
+      record {
+        device = ap (λ (s : State). s .device) (same .0);
+        counts = ap (λ (s : State). s .counts) (same .0);
+        inv = rw (same .0, same .1) v;
+        book = ap (λ (n : Entry). enter n (h .book)) (refused-entry c r (x .plan) (x .erased));
+      }
 
   -- a call with these checks, which refuse as the map's do
-  decide : (c : Call) (checks : List Check) (plan erased : List ℕ) (out : Outcome) (sized : Bool) → firstRefusal checks ≡ firstRefusal (mapChecks sized c m)
-      → (firstRefusal (mapChecks sized c m) ≡ none → Simulated c h (beside m h) out) → Simulated c h (beside m h) (unless checks (lend (h .state) (h .spare) plan erased) out)
-  decide c checks plan erased out sized same work = go _ (decided checks x out)
+  decide : (c : Call) (sized : Bool) → firstRefusal (checksOf c (lentTo c (h .state) (h .spare))) ≡ firstRefusal (mapChecks sized c m)
+      → (firstRefusal (mapChecks sized c m) ≡ none → Simulated c h (beside m h) (effect c (lentTo c (h .state) (h .spare)))) → Simulated c h (beside m h) (run c (h .state) (h .spare))
+  unfolding run
+  decide c sized same work = go _ (decided (checksOf c x) x (effect c x))
     where
       x : Lent
-      x = lend (h .state) (h .spare) plan erased
+      x = lentTo c (h .state) (h .spare)
 
-      go : (o : Outcome) → Decided checks x out o → Simulated c h (beside m h) o
+      go : (o : Outcome) → Decided (checksOf c x) x (effect c x) o → Simulated c h (beside m h) o
       go o (accepts e) = work (sym same ∙ e)
-      go o (refuses r e) = (mapIdle (beside m h), maps.refuses sized c r (sym same ∙ e), idle c r plan erased)
+      go o (refuses r e) = (mapIdle (beside m h), maps.refuses sized c r (sym same ∙ e), idle c r)
 
   flush-made : (batch plan : List ℕ) → firstRefusal (mapChecks true (flushCall batch plan) m) ≡ none → Simulated (flushCall batch plan) h (beside m h) (flushDone batch (lend (h .state) (h .spare) plan []))
   unfolding flushDone mapChecks mapDone mapWrite lend
@@ -117,8 +138,8 @@ module _ (h : Past) (place : ℕ → Option ℕ) (v : Inv (h .state) (h .spare) 
       (done (flushCall batch plan) h m _ true e (flushes batch plan) (moved-rest (sorted batch) x) (moved-inv (sorted batch) x place v (batch-ready (m .device) batch plan f) (λ n. omega arith)))
 
   lookup-made : (x : ℕ) → firstRefusal (mapChecks true (lookupCall x) m) ≡ none
-      → Simulated (lookupCall x) h (beside m h) (record { answer = answerOf (seek (h .state) (h .spare) x); after = lend (h .state) (h .spare) [] [] })
-  unfolding mapChecks mapDone noLists lend answerOf
+      → Simulated (lookupCall x) h (beside m h) (lookupDone x (lend (h .state) (h .spare) [] []))
+  unfolding lookupDone mapChecks mapDone noLists lend answerOf
   lookup-made x e = done (lookupCall x) h m _ true e (answers (place x) refl) (rest _) v
     where
       below : x < m .device .N
@@ -138,34 +159,41 @@ module _ (h : Past) (place : ℕ → Option ℕ) (v : Inv (h .state) (h .spare) 
   collect-made plan erased e =
       let x : Lent = lend (h .state) (h .spare) plan erased in
       subst (λ (o : Outcome). Simulated (collectCall plan erased) h (beside m h) o) (sym (collect-same x place v))
-      (done (collectCall plan erased) h m _ true e (collects plan erased) (collect-rest x place v) (collect-inv x place v (room (clears _ e .1 .1 .0))))
+      (done (collectCall plan erased) h m _ true e (collects plan erased) (collect-rest x place v) (collect-inv x place v (room (clears _ e .1 .1 .1 .0))))
     where
       room : (not (isEmpty (mapMoves m)) && isEmpty (freeBlocks 0 (m .counts))) ≡ false → 1 ≤ length (mapMoves m) → 1 ≤ length (freeBlocks 0 (m .counts))
       room t n = some-there (freeBlocks 0 (m .counts)) (rw (some-left (mapMoves m) n) at t)
 
+  list-made : (k : ℕ) (out : List ℕ) → firstRefusal (mapChecks true (listCall k out) m) ≡ none → Simulated (listCall k out) h (beside m h) (listDone k (withOut out (lend (h .state) (h .spare) [] [])))
+  unfolding listDone mapDone noLists lend
+  list-made k out e = done (listCall k out) h m _ true e (lists k out _) (rest _) v
+
   -- an agreement is of two states that the map doesn't know
-  agree-made : (s : State) (spare : List ℕ) (s′ : State) (spare′ : List ℕ)
-      → Simulated (agreeCall s spare s′ spare′) h (beside m h) (record { answer = agree s spare s′ spare′; after = lend (h .state) (h .spare) [] [] })
-  unfolding agree agreeAnswer mapChecks firstRefusal mapDone noLists lend
-  agree-made s spare s′ spare′ = go (firstRefusal (agreeChecks s spare s′ spare′))
+  agree-made : (s : State) (spare : List ℕ) (s′ : State) (spare′ : List ℕ) → Simulated (agreeCall s spare s′ spare′) h (beside m h) (run (agreeCall s spare s′ spare′) (h .state) (h .spare))
+  unfolding run lentTo checksOf effect agreeDone mapChecks firstRefusal mapDone noLists lend
+  agree-made s spare s′ spare′ = go _ (decided _ _ _)
     where
-      go : (o : Option Refusal) → Simulated (agreeCall s spare s′ spare′) h (beside m h) (record { answer = agreeAnswer o (agrees s spare s′ spare′); after = lend (h .state) (h .spare) [] [] })
-      go none = done (agreeCall s spare s′ spare′) h m _ true refl (maps.agrees s spare s′ spare′ _) (rest _) v
-      go (some r) = (mapIdle (beside m h), others s spare s′ spare′ r, idle (agreeCall s spare s′ spare′) r [] [])
+      x : Lent
+      x = lend (h .state) (h .spare) [] []
+
+      go : (o : Outcome) → Decided (checksOf (agreeCall s spare s′ spare′) x) x (agreeDone s spare s′ spare′ x) o → Simulated (agreeCall s spare s′ spare′) h (beside m h) o
+      go o (accepts e) = done (agreeCall s spare s′ spare′) h m _ true refl (maps.agrees s spare s′ spare′ _) (rest _) v
+      go o (refuses r e) = (mapIdle (beside m h), others s spare s′ spare′ r, idle (agreeCall s spare s′ spare′) r)
 
   -- every call
   made : (c : Call) → Simulated c h (beside m h) (run c (h .state) (h .spare))
-  unfolding run format flush lookup collect compaction lend
-  made (formatCall d) = decide (formatCall d) _ [] [] _ _ (format-checks d (h .state) (h .spare) [] [] m) (format-made d h m _)
-  made (flushCall batch plan) = decide (flushCall batch plan) _ plan [] _ true (flush-checks (h .state) (h .spare) place v batch plan []) (flush-made batch plan)
-  made (lookupCall x) = decide (lookupCall x) _ [] [] _ true (lookup-checks (h .state) (h .spare) place v x [] []) (lookup-made x)
-  made (collectCall plan erased) = decide (collectCall plan erased) _ plan erased _ true (collect-checks (h .state) (h .spare) place v plan erased) (collect-made plan erased)
-  made (compactCall k) = decide (compactCall k) _ [] [] _ true (compact-checks (h .state) (h .spare) place v k [] []) (compact-made k)
+  unfolding lentTo checksOf effect
+  made (formatCall d) = decide (formatCall d) _ (format-checks d (h .state) (h .spare) m) (format-made d h m _)
+  made (flushCall batch plan) = decide (flushCall batch plan) true (flush-checks (h .state) (h .spare) place v batch plan) (flush-made batch plan)
+  made (lookupCall x) = decide (lookupCall x) true (lookup-checks (h .state) (h .spare) place v x) (lookup-made x)
+  made (collectCall plan erased) = decide (collectCall plan erased) true (collect-checks (h .state) (h .spare) place v plan erased) (collect-made plan erased)
+  made (compactCall k) = decide (compactCall k) true (compact-checks (h .state) (h .spare) place v k) (compact-made k)
   made (agreeCall s spare s′ spare′) = agree-made s spare s′ spare′
+  made (listCall k out) = decide (listCall k out) true (list-checks (h .state) (h .spare) place v k out) (list-made k out)
 
 -- An accepted format, wherever it is made.
 started : (h : Past) (d : Device) → accepted (run (formatCall d) (h .state) (h .spare) .answer) ≡ true → Simulated (formatCall d) h (beside (blankMap d) h) (run (formatCall d) (h .state) (h .spare))
-unfolding run format
+unfolding run lentTo checksOf effect
 started h d t = go _ (decided (formatChecks d x) x (formatDone d x)) t
   where
     x : Lent
@@ -173,7 +201,7 @@ started h d t = go _ (decided (formatChecks d x) x (formatDone d x)) t
 
     go : (o : Outcome) → Decided (formatChecks d x) x (formatDone d x) o → accepted (o .answer) ≡ true → Simulated (formatCall d) h (beside (blankMap d) h) o
     go o (refuses r e) t = absurd (true≢false (sym t ∙ refused-not-accepted r))
-    go o (accepts e) t = format-made d h (blankMap d) _ (sym (format-checks d (h .state) (h .spare) [] [] (blankMap d)) ∙ e)
+    go o (accepts e) t = format-made d h (blankMap d) _ (sym (format-checks d (h .state) (h .spare) (blankMap d)) ∙ e)
 
 -- a call of the definitions, by what comes of it
 simulated : (h : Past) (k : MapPast) (c : Call) (a : Answer) (h′ : Past) → Defined h c a h′ → Simulated c h k (run c (h .state) (h .spare)) → (k′ : MapPast) × MapMakes k c a k′ × Shows h′ k′

@@ -1,17 +1,17 @@
 -- The first refusal that applies: what is known of a call's checks where it is refused, and where it isn't. Assumes nothing.
 use mathlib.Core.Path.{_≡_, refl, sym, _∙_, ap, subst}
-use mathlib.Core.List.{List, [], _∷_}
+use mathlib.Core.List.{List, [], _∷_, _++_}
 use mathlib.Core.Option.{Option, none, some}
 use mathlib.Core.Logic.{_⊎_, inl, inr}
 use mathlib.Core.Bool.{Bool, true, false}
-use Prim.Native.Nat.{ℕ}
+use Prim.Native.Nat.{ℕ, zero, suc}
 use native.Mathlib.Omega.{arith}
 use lib.Dec.{eqb}
-use lib.ListN.{length}
+use lib.ListN.{length, drop}
 use borrow.Author.Tests.{eq-eqb, ne-eqb, eqb-true, not-false}
 use Rattle.model.specs.Lists.{orElse}
-use Rattle.calls.specs.Refusals.{Refusal, badNumbers, badLength, notSound, outOfRange, badBatch, noFreeBlock, notNamed, nothingToGain, refusalNumber, Check, firstRefusal, wrongLength}
-use Rattle.calls.specs.Outcome.{refused, number, accepted}
+use Rattle.calls.specs.Refusals.{Refusal, refusalNumber, Check, firstRefusal, wrongLength}
+use Rattle.calls.specs.Outcome.{Answer, formatted, flushed, found, notWritten, collected, compacted, agreed, listed, refused, number, accepted}
 
 -- no check applies
 abbrev pub Clear : List Check → Type 0
@@ -38,14 +38,40 @@ pub goes-on : (c : Check) (cs : List Check) → c .applies ≡ false → firstRe
 unfolding firstRefusal orElse
 goes-on c cs e = rw e
 
--- No checks refuse nothing.
-pub no-checks : firstRefusal [] ≡ none
-unfolding firstRefusal
-no-checks = refl
+-- What is refused is not nothing.
+pub none-some : {A : Type 0} {B : Type 0} {a : A} → _≡_ {A = Option A} none (some a) → B
+none-some e = let z : _≡_ {A = ℕ} 0 1 = cc in absurd (omega arith)
+
+-- The first n checks don't apply.
+abbrev pub ClearTo : ℕ → List Check → Type 0
+ClearTo zero cs = Unit
+ClearTo (suc n) [] = Unit
+ClearTo (suc n) (c ∷ cs) = (c .applies ≡ false) × ClearTo n cs
+
+-- The law of a call's checks: behind those that don't apply, the others decide.
+pub decides : (n : ℕ) (cs : List Check) → ClearTo n cs → firstRefusal cs ≡ firstRefusal (drop n cs)
+decides zero cs p = refl
+decides (suc n) [] p = refl
+decides (suc n) (c ∷ cs) p = goes-on c cs (p .0) ∙ decides n cs (p .1)
+
+-- So check n is the answer where it applies ..
+pub refuses-at : (n : ℕ) {c : Check} {later : List Check} (cs : List Check) → drop n cs ≡ c ∷ later → ClearTo n cs → c .applies ≡ true → firstRefusal cs ≡ some (c .refusal)
+refuses-at n {c = c} {later = later} cs e p a = decides n cs p ∙ ap firstRefusal e ∙ stops c later a
+
+-- .. and the checks before are what they are, whatever stands behind them.
+pub front-refuses : (cs ds : List Check) {r : Refusal} → firstRefusal cs ≡ some r → firstRefusal (cs ++ ds) ≡ some r
+unfolding firstRefusal orElse
+front-refuses [] ds e = none-some e
+front-refuses (c ∷ cs) ds {r = r} e = go (c .applies) refl (front-refuses cs ds)
+  where
+    go : (t : Bool) → c .applies ≡ t → (firstRefusal cs ≡ some r → firstRefusal (cs ++ ds) ≡ some r) → firstRefusal (c ∷ (cs ++ ds)) ≡ some r
+    go true q ih = stops c (cs ++ ds) q ∙ sym (stops c cs q) ∙ e
+    go false q ih = goes-on c (cs ++ ds) q ∙ ih (sym (goes-on c cs q) ∙ e)
 
 -- Where no check applies, nothing is refused.
 pub is-clear : (cs : List Check) → Clear cs → firstRefusal cs ≡ none
-is-clear [] p = no-checks
+unfolding firstRefusal
+is-clear [] p = refl
 is-clear (c ∷ cs) p = goes-on c cs (p .0) ∙ is-clear cs (p .1)
 
 -- Where nothing is refused, no check applies.
@@ -57,6 +83,14 @@ clears (c ∷ cs) e = go (c .applies) refl (clears cs)
     go : (t : Bool) → c .applies ≡ t → (firstRefusal cs ≡ none → Clear cs) → Clear (c ∷ cs)
     go true q ih = let z : _≡_ {A = ℕ} 0 1 = (let y : orElse true (c .refusal) (firstRefusal cs) ≡ none = rw q at e in cc) in absurd (omega arith)
     go false q ih = (q, ih (rw q at e))
+
+-- Behind a list of checks none of which applies, another list decides.
+pub others-decide : (cs ds : List Check) → firstRefusal cs ≡ none → firstRefusal (cs ++ ds) ≡ firstRefusal ds
+others-decide cs ds e = go cs (clears cs e)
+  where
+    go : (cs : List Check) → Clear cs → firstRefusal (cs ++ ds) ≡ firstRefusal ds
+    go [] p = refl
+    go (c ∷ cs) p = goes-on c (cs ++ ds) (p .0) ∙ go cs (p .1)
 
 -- Where this is refused, a check for it applies, and none before that one.
 pub stopped : (r : Refusal) (cs : List Check) → firstRefusal cs ≡ some r → Stopped r cs
@@ -75,10 +109,6 @@ stopped r (c ∷ cs) e = go (c .applies) refl (stopped r cs)
         subst (λ (t : Bool). orLater t (c .applies) (Stopped r cs)) (sym (eq-eqb _ _ (ap refusalNumber z))) (inl q)
     go false q ih = later (eqb (refusalNumber (c .refusal)) (refusalNumber r)) q (ih (rw q at e))
 
--- What is refused is not nothing.
-pub none-some : {A : Type 0} {B : Type 0} {a : A} → _≡_ {A = Option A} none (some a) → B
-none-some e = let z : _≡_ {A = ℕ} 0 1 = cc in absurd (omega arith)
-
 -- A slice of the right length hasn't a wrong one ..
 pub right-length : (s : List ℕ) (n : ℕ) → length s ≡ n → wrongLength s n ≡ false
 unfolding wrongLength
@@ -96,12 +126,18 @@ length-is s n e = eqb-true (length s) n (not-false (eqb (length s) n) e)
 
 -- A refused call is not accepted.
 pub refused-not-accepted : (r : Refusal) → accepted (refused r) ≡ false
-unfolding accepted number refusalNumber
-refused-not-accepted badNumbers = refl
-refused-not-accepted badLength = refl
-refused-not-accepted notSound = refl
-refused-not-accepted outOfRange = refl
-refused-not-accepted badBatch = refl
-refused-not-accepted noFreeBlock = refl
-refused-not-accepted notNamed = refl
-refused-not-accepted nothingToGain = refl
+unfolding accepted
+refused-not-accepted r = refl
+
+-- A call that answers another number than 0 is not accepted.
+pub numbered-refused : (a : Answer) → (number a ≡ 0 → ⊥) → accepted a ≡ false
+unfolding accepted number
+numbered-refused formatted h = absurd (h refl)
+numbered-refused (flushed p n) h = absurd (h refl)
+numbered-refused (found p q n) h = absurd (h refl)
+numbered-refused (notWritten n) h = absurd (h refl)
+numbered-refused (collected p n e) h = absurd (h refl)
+numbered-refused (compacted n) h = absurd (h refl)
+numbered-refused (agreed t) h = absurd (h refl)
+numbered-refused (listed n) h = absurd (h refl)
+numbered-refused (refused r) h = refl

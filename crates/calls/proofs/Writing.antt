@@ -34,7 +34,7 @@ use Rattle.model.proofs.Learned.{records-sound, recordsFor-length}
 use Rattle.model.proofs.Hits.{Hit, learn-hit, learn-miss}
 use Rattle.calls.specs.Flush.{writeState}
 use Rattle.calls.specs.PageMap.{spot}
-use Rattle.calls.proofs.Moves.{Ready}
+use Rattle.calls.proofs.Moves.{Writable}
 use Rattle.calls.proofs.Placing.{Spot, elsewhere, there, spot-view}
 use Rattle.calls.proofs.Invariant.{Lies, Inv, update, update-here, update-other, imaged-update}
 
@@ -50,7 +50,7 @@ sound-all-within : (N k : ℕ) (rs : List Record) → all (soundRecord N k) rs �
 sound-all-within N k [] h = tt
 sound-all-within N k (r ∷ rs) h = (sound-within N k r (all-head (soundRecord N k) r rs h), sound-all-within N k rs (all-tail (soundRecord N k) r rs h))
 
-module _ (s : State) (spare : List ℕ) (place : ℕ → Option ℕ) (v : Inv s spare place) (ws : List Write) (k : ℕ) (r : Ready (s .device) ws)
+module _ (s : State) (spare : List ℕ) (place : ℕ → Option ℕ) (v : Inv s spare place) (ws : List Write) (k : ℕ) (r : Writable (s .device) ws)
     (block : k < s .device .M) (free : getD (s .counts) k 0 ≡ 0) where
   abbrev image : ℕ → List ℕ
   image = v .image

@@ -1,5 +1,5 @@
 -- Document 01, 'Operations': compaction. Assumes nothing.
-use mathlib.Core.List.{List, [], _∷_}
+use mathlib.Core.List.{List, [], _∷_, _++_}
 use mathlib.Core.Bool.{not}
 use Prim.Native.Nat.{ℕ}
 use lib.Dec.{leb}
@@ -8,18 +8,21 @@ use Rattle.model.specs.Device.{groupCount}
 use Rattle.model.specs.Levels.{recordCount, compact}
 use Rattle.model.specs.State.{State, groupAt, withGroups}
 use Rattle.model.specs.Sound.{soundGroup}
-use Rattle.calls.specs.Refusals.{Check, _when_, badNumbers, badLength, notSound, outOfRange, numbersMissing, wrongState}
-use Rattle.calls.specs.Outcome.{Lent, compacted, Outcome, unless}
+use Rattle.calls.specs.Refusals.{Check, _when_, notSound, outOfRange, opening}
+use Rattle.calls.specs.Outcome.{Lent, withState, compacted, Outcome}
 
--- "After 1 and 2: 4, no such group; 3, that group not sound." It is lent no spare area.
+-- "4, no such group; 3, that group not sound"
+abbrev pub groupChecks : ℕ → State → List Check
+groupChecks k s =
+    outOfRange when leb (groupCount (s .device)) k
+    ∷ notSound when not (soundGroup (s .device .N) k (groupAt s k))
+    ∷ []
+
+-- "After 1 and 2: 4, .. 3, ..": it is lent no spare area.
 unfoldable pub compactChecks : ℕ → Lent → List Check
 compactChecks k x =
     let s : State = x .state in
-    badNumbers when numbersMissing s
-    ∷ badLength when wrongState s
-    ∷ outOfRange when leb (groupCount (s .device)) k
-    ∷ notSound when not (soundGroup (s .device .N) k (groupAt s k))
-    ∷ []
+    opening s ++ groupChecks k s
 
 -- group k compacted
 unfoldable pub compactGroup : ℕ → State → State
@@ -27,10 +30,4 @@ compactGroup k s = withGroups (set (s .groups) k (compact (groupAt s k))) s
 
 -- "Compaction takes a group number and answers its records left."
 unfoldable pub compactDone : ℕ → Lent → Outcome
-compactDone k x = record {
-  answer = compacted (recordCount (compact (groupAt (x .state) k)));
-  after = record { state = compactGroup k (x .state); spare = x .spare; plan = x .plan; erased = x .erased };
-}
-
-unfoldable pub compaction : ℕ → Lent → Outcome
-compaction k x = unless (compactChecks k x) x (compactDone k x)
+compactDone k x = record { answer = compacted (recordCount (compact (groupAt (x .state) k))); after = withState (compactGroup k (x .state)) x }

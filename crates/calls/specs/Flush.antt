@@ -1,5 +1,5 @@
 -- Document 01, 'Operations': flush. Assumes nothing.
-use mathlib.Core.List.{List, [], _∷_}
+use mathlib.Core.List.{List, [], _∷_, _++_}
 use mathlib.Core.Bool.{not, _||_}
 use Prim.Native.Nat.{ℕ}
 use lib.Dec.{ltb}
@@ -11,8 +11,8 @@ use Rattle.model.specs.Learning.{Write, sorted, logicals, sources, learn}
 use Rattle.model.specs.Levels.{takeInAll}
 use Rattle.model.specs.State.{State, withCounts, withGroups, freeBlocks, lowestFree}
 use Rattle.model.specs.Sound.{soundState, isEmpty}
-use Rattle.calls.specs.Refusals.{Check, _when_, badNumbers, badLength, notSound, outOfRange, badBatch, noFreeBlock, numbersMissing, wrongState, wrongSpare, wrongLength}
-use Rattle.calls.specs.Outcome.{Lent, Outcome, unless, flushed}
+use Rattle.calls.specs.Refusals.{Check, _when_, badLength, notSound, outOfRange, badBatch, noFreeBlock, wrongLength, openingWith}
+use Rattle.calls.specs.Outcome.{Lent, withState, withSpare, withPlan, Outcome, flushed}
 
 -- "After 1 and 2: 3, state not sound; 5, batch empty or longer than B; 4, a logical page is N or more; 6, fewer than two
 -- free blocks."
@@ -20,13 +20,13 @@ unfoldable pub flushChecks : List ℕ → Lent → List Check
 flushChecks batch x =
     let s : State = x .state in
     let d : Device = s .device in
-    badNumbers when numbersMissing s
-    ∷ badLength when (wrongState s || wrongSpare s (x .spare) || wrongLength (x .plan) (d .B))
+    openingWith s (x .spare)
+    ++ (badLength when wrongLength (x .plan) (d .B)
     ∷ notSound when not (soundState s)
     ∷ badBatch when (isEmpty batch || ltb (d .B) (length batch))
     ∷ outOfRange when not (all (λ y. ltb y (d .N)) batch)
     ∷ noFreeBlock when ltb (length (freeBlocks 0 (s .counts))) 2
-    ∷ []
+    ∷ [])
 
 -- Block k takes the writes, which ascend by logical page, from its first page on: its count, the learned records, the spare
 -- entries; the plan gets the sources, "later entries stay".
@@ -36,12 +36,10 @@ writeState ws k s =
     (withCounts (set (s .counts) k (length ws)) s)
 
 unfoldable pub writeBlock : List Write → ℕ → Lent → Lent
-writeBlock ws k x = record {
-  state = writeState ws k (x .state);
-  spare = programBlock (x .state .device) (logicals ws) k (x .spare);
-  plan = store (x .plan) 0 (sources ws);
-  erased = x .erased;
-}
+writeBlock ws k x =
+    withPlan (store (x .plan) 0 (sources ws))
+    (withSpare (programBlock (x .state .device) (logicals ws) k (x .spare))
+    (withState (writeState ws k (x .state)) x))
 
 -- "It answers first page and count, and writes into a plan .. for each page written, the arrival index": "from the start of
 -- the lowest-numbered free block"
@@ -50,6 +48,3 @@ flushDone batch x =
     let k : ℕ = lowestFree (x .state) in
     let ws : List Write = sorted batch in
     record { answer = flushed (firstPage (x .state .device) k) (length ws); after = writeBlock ws k x }
-
-unfoldable pub flush : List ℕ → Lent → Outcome
-flush batch x = unless (flushChecks batch x) x (flushDone batch x)

@@ -6,13 +6,15 @@ use Prim.Native.Nat.{ℕ}
 use lib.ListN.{getD, take}
 use Rattle.model.specs.Device.{Device}
 use Rattle.model.specs.State.{State}
-use Rattle.calls.specs.Outcome.{Lent, Answer, accepted, values, Outcome}
-use Rattle.calls.specs.Format.{format}
-use Rattle.calls.specs.Flush.{flush}
-use Rattle.calls.specs.Lookup.{lookup}
-use Rattle.calls.specs.Collection.{collect}
-use Rattle.calls.specs.Compaction.{compaction}
-use Rattle.calls.specs.Agreement.{agree}
+use Rattle.calls.specs.Outcome.{Lent, withOut, Answer, accepted, values, Outcome, unless}
+use Rattle.calls.specs.Refusals.{Check}
+use Rattle.calls.specs.Format.{formatChecks, formatDone}
+use Rattle.calls.specs.Flush.{flushChecks, flushDone}
+use Rattle.calls.specs.Lookup.{lookupChecks, lookupDone}
+use Rattle.calls.specs.Collection.{collectChecks, collectDone}
+use Rattle.calls.specs.Compaction.{compactChecks, compactDone}
+use Rattle.calls.specs.Agreement.{agreeChecks, agreeDone}
+use Rattle.calls.specs.Listing.{listChecks, listDone}
 use Rattle.calls.specs.Book.{Book, Entry, formatEntry, flushEntry, collectEntry, noEntry, enter}
 
 -- A call with its arguments and lent lists, state and spare area aside. "Calls that write neither of the two, such as
@@ -24,19 +26,44 @@ pub data Call : Type 0 where
   collectCall : (plan erased : List ℕ) → Call
   compactCall : (group : ℕ) → Call
   agreeCall : (first : State) (firstSpare : List ℕ) (second : State) (secondSpare : List ℕ) → Call
+  listCall : (group : ℕ) (out : List ℕ) → Call
 
 -- state and spare area, with the lists that a call brings
 unfoldable pub lend : State → List ℕ → List ℕ → List ℕ → Lent
-lend s spare plan erased = record { state = s; spare = spare; plan = plan; erased = erased }
+lend s spare plan erased = record { state = s; spare = spare; plan = plan; erased = erased; out = [] }
+
+unfoldable pub lentTo : Call → State → List ℕ → Lent
+lentTo (formatCall d) s spare = lend s spare [] []
+lentTo (flushCall batch plan) s spare = lend s spare plan []
+lentTo (lookupCall x) s spare = lend s spare [] []
+lentTo (collectCall plan erased) s spare = lend s spare plan erased
+lentTo (compactCall k) s spare = lend s spare [] []
+lentTo (agreeCall a sa b sb) s spare = lend s spare [] []
+lentTo (listCall k out) s spare = withOut out (lend s spare [] [])
+
+-- its refusals in order
+unfoldable pub checksOf : Call → Lent → List Check
+checksOf (formatCall d) x = formatChecks d x
+checksOf (flushCall batch _) x = flushChecks batch x
+checksOf (lookupCall y) x = lookupChecks y x
+checksOf (collectCall _ _) x = collectChecks x
+checksOf (compactCall k) x = compactChecks k x
+checksOf (agreeCall a sa b sb) x = agreeChecks a sa b sb
+checksOf (listCall k _) x = listChecks k x
+
+-- what comes of it where none applies
+unfoldable pub effect : Call → Lent → Outcome
+effect (formatCall d) x = formatDone d x
+effect (flushCall batch _) x = flushDone batch x
+effect (lookupCall y) x = lookupDone y x
+effect (collectCall _ _) x = collectDone x
+effect (compactCall k) x = compactDone k x
+effect (agreeCall a sa b sb) x = agreeDone a sa b sb x
+effect (listCall k _) x = listDone k x
 
 -- a call on a state and a spare area
 unfoldable pub run : Call → State → List ℕ → Outcome
-run (formatCall d) s spare = format d (lend s spare [] [])
-run (flushCall batch plan) s spare = flush batch (lend s spare plan [])
-run (lookupCall x) s spare = lookup x (lend s spare [] [])
-run (collectCall plan erased) s spare = collect (lend s spare plan erased)
-run (compactCall k) s spare = compaction k (lend s spare [] [])
-run (agreeCall a sa b sb) s spare = record { answer = agree a sa b sb; after = lend s spare [] [] }
+run c s spare = unless (checksOf c (lentTo c s spare)) (lentTo c s spare) (effect c (lentTo c s spare))
 
 -- value i of an answer, in document 01's order
 unfoldable pub value : Answer → ℕ → ℕ
@@ -50,6 +77,7 @@ acceptedEntry (lookupCall x) a plan erased = noEntry
 acceptedEntry (collectCall _ _) a plan erased = collectEntry (value a 0) (value a 1) plan (take (value a 2) erased)
 acceptedEntry (compactCall k) a plan erased = noEntry
 acceptedEntry (agreeCall _ _ _ _) a plan erased = noEntry
+acceptedEntry (listCall _ _) a plan erased = noEntry
 
 unfoldable pub entryOf : Call → Answer → List ℕ → List ℕ → Entry
 entryOf c a plan erased = elim (accepted a) [ true ↦ acceptedEntry c a plan erased | false ↦ noEntry ]

@@ -7,7 +7,9 @@ pub mod Choice
 pub mod Collection
 pub mod Compaction
 pub mod Agreement
+pub mod Listing
 pub mod Book
 pub mod History
+pub mod Bounds
 pub mod PageMap
 pub mod Demand3

@@ -14,10 +14,11 @@ use Rattle.model.specs.Learning.{Write, sorted, logicals, sources}
 use Rattle.model.specs.State.{State, freeBlocks, lowestIn}
 use Rattle.model.specs.Sound.{isEmpty}
 use Rattle.calls.specs.Refusals.{Refusal, Check, _when_, firstRefusal, badNumbers, badLength, outOfRange, badBatch, noFreeBlock, nothingToGain, wrongLength}
-use Rattle.calls.specs.Outcome.{Answer, formatted, flushed, found, notWritten, collected, compacted, agreed, refused}
+use Rattle.calls.specs.Outcome.{Answer, formatted, flushed, found, notWritten, collected, compacted, agreed, listed, refused}
 use Rattle.calls.specs.Choice.{Used, victimsBy, blocksOf, movesBy, firstOf, noGain}
+use Rattle.calls.specs.Listing.{listingLength}
 use Rattle.calls.specs.Book.{Book, noEntry, enter}
-use Rattle.calls.specs.History.{Call, formatCall, flushCall, lookupCall, collectCall, compactCall, agreeCall, entryOf}
+use Rattle.calls.specs.History.{Call, formatCall, flushCall, lookupCall, collectCall, compactCall, agreeCall, listCall, entryOf}
 
 pub record PageMap : Type 0 where
   pub device : Device
@@ -38,8 +39,8 @@ unfoldable pub lyingOn : (ℕ → Option ℕ) → ℕ → ℕ → ℕ → Option
 lyingOn place p x zero = none
 lyingOn place p x (suc n) = orElse (isAt p (place x)) x (lyingOn place p (suc x) n)
 
-unfoldable pub ownerOf : PageMap → ℕ → Option ℕ
-ownerOf m p = lyingOn (m .place) p 0 (m .device .N)
+unfoldable pub logicalOn : PageMap → ℕ → Option ℕ
+logicalOn m p = lyingOn (m .place) p 0 (m .device .N)
 
 -- a page is valid if a logical page lies on it, and that is its name
 unfoldable pub isSome : Option ℕ → Bool
@@ -51,10 +52,10 @@ orZero none = 0
 orZero (some x) = x
 
 abbrev pub mapVictims : PageMap → List Used
-mapVictims m = victimsBy (λ p. isSome (ownerOf m p)) (m .device) (m .counts)
+mapVictims m = victimsBy (λ p. isSome (logicalOn m p)) (m .device) (m .counts)
 
 abbrev pub mapMoves : PageMap → List Write
-mapMoves m = movesBy (λ p. orZero (ownerOf m p)) (mapVictims m)
+mapMoves m = movesBy (λ p. orZero (logicalOn m p)) (mapVictims m)
 
 -- counts with writes on the lowest-numbered free block (none is needed for none)
 unfoldable pub writeCounts : List Write → List ℕ → List ℕ
@@ -92,15 +93,17 @@ mapChecks sized (flushCall batch plan) m =
     ∷ []
 mapChecks sized (lookupCall x) m = outOfRange when leb (m .device .N) x ∷ []
 mapChecks sized (collectCall plan erased) m =
-    badLength when (wrongLength plan (m .device .B) || wrongLength erased (m .device .M))
+    badLength when wrongLength plan (m .device .B)
+    ∷ badLength when wrongLength erased (m .device .M)
     ∷ nothingToGain when noGain (mapVictims m)
     ∷ noFreeBlock when (not (isEmpty (mapMoves m)) && isEmpty (freeBlocks 0 (m .counts)))
     ∷ []
 mapChecks sized (compactCall k) m = outOfRange when leb (groupCount (m .device)) k ∷ []
 mapChecks sized (agreeCall _ _ _ _) m = []
+mapChecks sized (listCall k out) m = badLength when wrongLength out listingLength ∷ outOfRange when leb (groupCount (m .device)) k ∷ []
 
 -- What an accepted call answers: all that needs no records. A lookup's predicted page and number of levels, a compaction's records
--- left, and an agreement's yes or no, of two states that the map doesn't know, may be any.
+-- left, a listing's number of records, and an agreement's yes or no, of two states that the map doesn't know, may be any.
 pub data MapAnswers (m : PageMap) : Call → Answer → Type 0 where
   formats : (d : Device) → MapAnswers m (formatCall d) formatted
   flushes : (batch plan : List ℕ)
@@ -111,6 +114,7 @@ pub data MapAnswers (m : PageMap) : Call → Answer → Type 0 where
       → MapAnswers m (collectCall plan erased) (collected (firstOf (mapMoves m) (m .device) (m .counts)) (length (mapMoves m)) (length (blocksOf (mapVictims m))))
   compacts : (k left : ℕ) → MapAnswers m (compactCall k) (compacted left)
   agrees : (s : State) (spare : List ℕ) (s′ : State) (spare′ : List ℕ) (t : Bool) → MapAnswers m (agreeCall s spare s′ spare′) (agreed t)
+  lists : (k : ℕ) (out : List ℕ) (records : ℕ) → MapAnswers m (listCall k out) (listed records)
 
 -- What an accepted call leaves: the map and its lists.
 pub record MapLeft : Type 0 where
@@ -133,6 +137,7 @@ mapDone (collectCall plan erased) m = record {
 }
 mapDone (compactCall k) m = noLists m
 mapDone (agreeCall _ _ _ _) m = noLists m
+mapDone (listCall _ _) m = noLists m
 
 -- The map between two calls, and the book so far.
 pub record MapPast : Type 0 where

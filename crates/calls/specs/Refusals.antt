@@ -1,5 +1,5 @@
 -- Document 01, 'Operations, each with its refusals in order': the refusals, and the first that applies. Assumes nothing.
-use mathlib.Core.List.{List, [], _∷_}
+use mathlib.Core.List.{List, [], _∷_, _++_}
 use mathlib.Core.Option.{Option, none}
 use mathlib.Core.Bool.{Bool, not, _||_}
 use Prim.Native.Nat.{ℕ}
@@ -67,3 +67,12 @@ wrongState s = not (eqb (s .bytes) (stateLength (s .device)))
 -- the spare area hasn't exactly the length that the state's numbers give
 unfoldable pub wrongSpare : State → List ℕ → Bool
 wrongSpare s spare = wrongLength spare (spareLength (s .device))
+
+-- "Every other operation refuses 1 when the state is too short to hold the device numbers or they are outside limits, and 2 when a
+-- lent slice has a wrong length": the first checks of all of them, for the state alone ..
+abbrev pub opening : State → List Check
+opening s = badNumbers when numbersMissing s ∷ badLength when wrongState s ∷ []
+
+-- .. and for the state with its spare area
+abbrev pub openingWith : State → List ℕ → List Check
+openingWith s spare = opening s ++ (badLength when wrongSpare s spare ∷ [])

@@ -2,44 +2,25 @@
 use mathlib.Core.Path.{_≡_, refl, sym, ap, _∙_}
 use mathlib.Core.List.{List, [], _∷_}
 use mathlib.Core.Option.{none, some}
-use mathlib.Core.Bool.{true≢false, Bool, true, false, not, _&&_, _||_}
+use mathlib.Core.Bool.{true≢false, Bool, true, false, not, _&&_}
 use Prim.Native.Nat.{ℕ, _≤_, _<_}
 use native.Mathlib.Omega.{arith}
 use lib.Dec.{ltb, eqb}
 use lib.ListN.{length, length-append}
-use borrow.Author.Tests.{lt-ltb, le-ltb, eq-eqb, ne-eqb}
-use Rattle.model.specs.Device.{Device, spareLength}
+use borrow.Author.Tests.{lt-ltb, le-ltb, eq-eqb, ne-eqb, not-false}
+use Rattle.model.specs.Device.{Device}
 use Rattle.model.specs.State.{State, freeBlocks}
 use Rattle.model.specs.Sound.{soundState, isEmpty}
-use Rattle.calls.specs.Refusals.{Refusal, badNumbers, badLength, notSound, noFreeBlock, nothingToGain, Check, _when_, firstRefusal, numbersMissing, wrongState, wrongSpare, wrongLength}
-use Rattle.calls.specs.Outcome.{Lent, Answer, number, accepted, refused, Outcome}
+use Rattle.calls.specs.Refusals.{Refusal, badLength, notSound, noFreeBlock, nothingToGain, Check, _when_, firstRefusal, wrongLength, openingWith}
+use Rattle.calls.specs.Outcome.{Lent, Answer, accepted, refused}
 use Rattle.calls.specs.Choice.{Used, pagesOf, noGain}
-use Rattle.calls.specs.Collection.{victims, moves, collectChecks, collectDone, collect}
-use Rattle.calls.specs.History.{collectCall, lend, run}
-use Rattle.calls.proofs.Decided.{unless-accepts}
-use Rattle.calls.proofs.Refusing.{stops, goes-on, right-length, wrong-length, no-checks}
-use Rattle.spare.specs.Read.{numbersOf}
-use Rattle.spare.specs.declared.Numbers.{Numbers}
-use Rattle.state.specs.declared.answers.Refusal as code
-use Rattle.state.specs.declared.opening.Opened.{Opened}
-use Rattle.state.specs.declared.opening.Opened.the-variants as opened
-use Rattle.state.specs.Answers.{refusalOf}
+use Rattle.calls.specs.Collection.{victims, moves, admitChecks, collectChecks, collectDone}
+use Rattle.calls.specs.History.{collectCall, lend, lentTo, checksOf, effect}
+use Rattle.calls.proofs.Refusing.{front-refuses, others-decide, refuses-at, clears, is-clear, length-is}
 use Rattle.state.specs.Reading.{readState}
-use Rattle.state.specs.Shaped.{Shaped, Passed}
-use Rattle.state.specs.Opening.{stateChecks}
-use Rattle.state.specs.Ran.{Ran}
-use Rattle.state.proofs.Refusing.{ran-refused, numbers-there, state-right, not-opened}
-use Rattle.collection.specs.Admitting.{Admits}
-
--- What the checks before any counting answered: the device, or the refusal.
-pub admitted : (x : Lent) (o : Opened) (d : Numbers) → Admits x o → o ≡ opened.Device d
-    → Passed (numbersOf d) (x .state) (x .spare) × (length (x .plan) ≡ d .b) × (length (x .erased) ≡ d .m)
-unfolding Admits
-admitted x o d h e = rw e at h
-
-pub refused-first : (x : Lent) (o : Opened) (r : code.Refusal) → Admits x o → o ≡ opened.Refused r → firstRefusal (collectChecks x) ≡ some (refusalOf r)
-unfolding Admits
-refused-first x o r h e = rw e at h
+use Rattle.state.specs.Shaped.{Passed}
+use Rattle.state.specs.Ran.{Slices, Ran}
+use Rattle.state.proofs.Refusing.{ran-refused, ran-accepted, opened-with}
 
 -- Whether there is something to gain, by the number of blocks taken, c, and of their pages, n.
 pub gain-none : (us : List Used) (c : ℕ) → c ≡ length us → c ≡ 0 → true ≡ noGain us
@@ -79,10 +60,9 @@ module _ (cs : List ℕ) (n : ℕ) where
   pub block-needed : (n ≡ 0 → ⊥) → (r : ℕ) → r ≡ length (freeBlocks 0 cs) → eqb r 0 ≡ (not (eqb n 0) && isEmpty (freeBlocks 0 cs))
   block-needed h r e = counted-empty (freeBlocks 0 cs) r e ∙ rw (ne-eqb n 0 h)
 
--- the first of four tests apart
-or-first : (a b c e : Bool) → (a || b || c || e) ≡ (a || (b || c || e))
-or-first true b c e = refl
-or-first false b c e = refl
+-- The checks behind the opening before any counting, by the device's own numbers.
+abbrev pub rest : Device → State → List ℕ → List ℕ → List Check
+rest d s plan erased = badLength when wrongLength plan (d .B) ∷ badLength when wrongLength erased (d .M) ∷ notSound when not (soundState s) ∷ []
 
 module _ (state spare plan erased : List ℕ) where
   abbrev s : State
@@ -91,98 +71,53 @@ module _ (state spare plan erased : List ℕ) where
   abbrev x : Lent
   x = lend s spare plan erased
 
-  -- its checks
-  abbrev first : Check
-  first = badNumbers when numbersMissing s
+  -- They decide where the state is opened.
+  pub to-rest : (d : Device) → (firstRefusal (openingWith s spare) ≡ none) × (s .device ≡ d) → firstRefusal (admitChecks x) ≡ firstRefusal (rest d s plan erased)
+  unfolding lend
+  to-rest d p = others-decide (openingWith s spare) _ (p .0) ∙ ap (λ (e : Device). firstRefusal (rest e s plan erased)) (p .1)
 
-  abbrev second : Check
-  second = badLength when (wrongState s || wrongSpare s spare || wrongLength plan (s .device .B) || wrongLength erased (s .device .M))
-
-  abbrev third : Check
-  third = notSound when not (soundState s)
-
-  abbrev fourth : Check
-  fourth = nothingToGain when noGain (victims s spare)
-
-  abbrev fifth : Check
-  fifth = noFreeBlock when (not (isEmpty (moves s spare)) && isEmpty (freeBlocks 0 (s .counts)))
+  -- What a collection that none of them refuses has passed.
+  pub admitted : (d : Device) → (firstRefusal (admitChecks x) ≡ none) × (s .device ≡ d) → Passed d s spare × (length plan ≡ d .B) × (length erased ≡ d .M)
+  unfolding lend
+  admitted d p =
+      let c = clears (admitChecks x) (p .0) in
+      let o = opened-with s spare d (is-clear (openingWith s spare) (c .0, (c .1 .0, (c .1 .1 .0, tt)))) (p .1) in
+      let r = c .1 .1 .1 in
+      (record { shape = o .0; fits = o .1; sound = not-false _ (r .1 .1 .0) }, rw (p .1) at (length-is plan (s .device .B) (r .0)), rw (p .1) at (length-is erased (s .device .M) (r .1 .0)))
 
   -- A refused collection changes nothing.
-  pub refuses : (r : Refusal) → firstRefusal (collectChecks x) ≡ some r → Ran (collectCall plan erased) state spare (refused r) state spare plan erased
-  unfolding run collect
-  refuses r e = ran-refused (collectCall plan erased) _ _ state spare plan erased r refl e
+  abbrev as-lent : Slices
+  as-lent = record { state = state; spare = spare; plan = plan; erased = erased; out = [] }
 
-  -- 1 or 2: the state is not opened.
-  pub closed : (r : Refusal) → firstRefusal (stateChecks s) ≡ some r → firstRefusal (collectChecks x) ≡ some r
-  unfolding collectChecks lend
-  closed r e =
-      ap (λ (t : Bool). firstRefusal (badNumbers when numbersMissing s ∷ badLength when t ∷ third ∷ fourth ∷ fifth ∷ []))
-      (or-first (wrongState s) (wrongSpare s spare) (wrongLength plan (s .device .B)) (wrongLength erased (s .device .M)))
-      ∙ not-opened s _ _ r e
+  refuses : (r : Refusal) → firstRefusal (collectChecks x) ≡ some r → Ran (collectCall plan erased) state spare (refused r) as-lent
+  unfolding checksOf lentTo lend
+  refuses r e = ran-refused (collectCall plan erased) state spare _ r e refl refl
 
-  module _ (d : Device) (h : Shaped d s) where
-    -- 2: the spare area, the plan or the erased list has a wrong length.
-    pub bad-spare : (length spare ≡ spareLength d → ⊥) → firstRefusal (collectChecks x) ≡ some badLength
-    unfolding collectChecks lend wrongSpare
-    bad-spare f = goes-on first _ (numbers-there d s h) ∙ stops second _ (rw (state-right d s h, h .numbers, wrong-length spare (spareLength d) f))
+  -- 1, 2 or 3.
+  pub not-admitted : (r : Refusal) → firstRefusal (admitChecks x) ≡ some r → Ran (collectCall plan erased) state spare (refused r) as-lent
+  unfolding collectChecks
+  not-admitted r e = refuses r (front-refuses (admitChecks x) _ e)
 
-    module _ (a : length spare ≡ spareLength d) where
-      pub bad-plan : (length plan ≡ d .B → ⊥) → firstRefusal (collectChecks x) ≡ some badLength
-      unfolding collectChecks lend wrongSpare
-      bad-plan f =
-          goes-on first _ (numbers-there d s h)
-          ∙ stops second _ (rw (state-right d s h, h .numbers, right-length spare (spareLength d) a, wrong-length plan (d .B) f))
-
-      module _ (b : length plan ≡ d .B) where
-        pub bad-erased : (length erased ≡ d .M → ⊥) → firstRefusal (collectChecks x) ≡ some badLength
-        unfolding collectChecks lend wrongSpare
-        bad-erased f =
-            goes-on first _ (numbers-there d s h)
-            ∙ stops second _ (rw (state-right d s h, h .numbers, right-length spare (spareLength d) a, right-length plan (d .B) b, wrong-length erased (d .M) f))
-
-        module _ (c : length erased ≡ d .M) where
-          second-passes : (wrongState s || wrongSpare s spare || wrongLength plan (s .device .B) || wrongLength erased (s .device .M)) ≡ false
-          unfolding wrongSpare
-          second-passes = rw (state-right d s h, h .numbers, right-length spare (spareLength d) a, right-length plan (d .B) b, right-length erased (d .M) c)
-
-          -- 3: the state is not sound.
-          pub unsound : soundState s ≡ false → firstRefusal (collectChecks x) ≡ some notSound
-          unfolding collectChecks lend
-          unsound f = goes-on first _ (numbers-there d s h) ∙ goes-on second _ second-passes ∙ stops third _ (rw f)
-
-  module _ (d : Device) (v : Passed d s spare) (b : length plan ≡ d .B) (c : length erased ≡ d .M) where
-    three-pass : firstRefusal (collectChecks x) ≡ firstRefusal (fourth ∷ fifth ∷ [])
-    unfolding collectChecks lend
-    three-pass =
-        goes-on first _ (numbers-there d s (v .shape))
-        ∙ goes-on second _ (second-passes d (v .shape) (v .fits) b c)
-        ∙ goes-on third _ (rw (v .sound))
-
+  module _ (passed : firstRefusal (admitChecks x) ≡ none) where
     -- 8: there is nothing to gain.
-    pub gains-nothing : noGain (victims s spare) ≡ true → Ran (collectCall plan erased) state spare (refused nothingToGain) state spare plan erased
-    gains-nothing e = refuses nothingToGain (three-pass ∙ stops fourth _ e)
+    pub gains-nothing : noGain (victims s spare) ≡ true → Ran (collectCall plan erased) state spare (refused nothingToGain) as-lent
+    unfolding collectChecks lend
+    gains-nothing e = refuses nothingToGain (others-decide (admitChecks x) _ passed ∙ refuses-at 0 _ refl tt e)
 
     module _ (gain : noGain (victims s spare) ≡ false) (n : ℕ) (count : n ≡ length (moves s spare)) where
-      fifth-is : (not (isEmpty (moves s spare)) && isEmpty (freeBlocks 0 (s .counts))) ≡ (not (eqb n 0) && isEmpty (freeBlocks 0 (s .counts)))
-      fifth-is = ap (λ (t : Bool). not t && isEmpty (freeBlocks 0 (s .counts))) (sym (counted-empty (moves s spare) n count))
+      block-is : (not (isEmpty (moves s spare)) && isEmpty (freeBlocks 0 (s .counts))) ≡ (not (eqb n 0) && isEmpty (freeBlocks 0 (s .counts)))
+      block-is = ap (λ (t : Bool). not t && isEmpty (freeBlocks 0 (s .counts))) (sym (counted-empty (moves s spare) n count))
 
       -- 6: a free block is needed and none exists.
-      pub lacks-block : (not (eqb n 0) && isEmpty (freeBlocks 0 (s .counts))) ≡ true → Ran (collectCall plan erased) state spare (refused noFreeBlock) state spare plan erased
-      lacks-block e = refuses noFreeBlock (three-pass ∙ goes-on fourth _ gain ∙ stops fifth _ (fifth-is ∙ e))
+      pub lacks-block : (not (eqb n 0) && isEmpty (freeBlocks 0 (s .counts))) ≡ true → Ran (collectCall plan erased) state spare (refused noFreeBlock) as-lent
+      unfolding collectChecks lend
+      lacks-block e = refuses noFreeBlock (others-decide (admitChecks x) _ passed ∙ refuses-at 1 _ refl (gain, tt) (block-is ∙ e))
 
       -- Nothing is refused: the collection is done.
       pub collects : (not (eqb n 0) && isEmpty (freeBlocks 0 (s .counts))) ≡ false → (answer : Answer) (state′ spare′ plan′ erased′ : List ℕ)
           → answer ≡ collectDone x .answer → lend (readState state′) spare′ plan′ erased′ ≡ collectDone x .after
-          → Ran (collectCall plan erased) state spare answer state′ spare′ plan′ erased′
-      unfolding run collect collectDone lend accepted number
+          → Ran (collectCall plan erased) state spare answer (record { state = state′; spare = spare′; plan = plan′; erased = erased′; out = [] })
+      unfolding checksOf lentTo effect collectChecks collectDone lend accepted
       collects e answer state′ spare′ plan′ erased′ f g =
-          let clear : firstRefusal (collectChecks x) ≡ none = three-pass ∙ goes-on fourth _ gain ∙ goes-on fifth _ (fifth-is ∙ e) ∙ no-checks in
-          let o : run (collectCall plan erased) s spare ≡ collectDone x = unless-accepts _ _ _ clear in
-          record {
-            answered = f ∙ sym (ap (λ (p : Outcome). p .answer) o);
-            stateRead = ap (λ (y : Lent). y .state) g ∙ sym (ap (λ (p : Outcome). p .after .state) o);
-            spareLeft = ap (λ (y : Lent). y .spare) g ∙ sym (ap (λ (p : Outcome). p .after .spare) o);
-            planLeft = ap (λ (y : Lent). y .plan) g ∙ sym (ap (λ (p : Outcome). p .after .plan) o);
-            erasedLeft = ap (λ (y : Lent). y .erased) g ∙ sym (ap (λ (p : Outcome). p .after .erased) o);
-            refusedBytes = λ r. absurd (true≢false (sym (ap accepted f) ∙ r));
-          }
+          ran-accepted (collectCall plan erased) state spare answer _ (others-decide (admitChecks x) _ passed ∙ is-clear _ (gain, (block-is ∙ e, tt))) f g
+          (λ r. absurd (true≢false (sym (ap accepted f) ∙ r)))

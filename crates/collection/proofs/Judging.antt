@@ -25,19 +25,19 @@ use Rattle.calls.specs.Collection.{gives, valid, usedBlock}
 use Rattle.sorting.proofs.SortStores.{drop-next}
 use Rattle.spare.proofs.Sizes.{page-small}
 use Rattle.state.specs.Shaped.{countOf, Passed}
-use Rattle.state.specs.Answers.{soughtOf}
-use Rattle.state.specs.declared.answers.Sought.{Sought}
-use Rattle.state.specs.declared.answers.Sought.the-variants.{At, Nowhere, Unnamed}
-use Rattle.state.proofs.answers.Sought.{the-type}
+use Rattle.state.specs.Answers.{asLooked}
+use Rattle.state.specs.declared.answers.Lookup.{Lookup}
+use Rattle.state.specs.declared.answers.Lookup.the-variants.{Found, NotWritten, Refused}
+use Rattle.state.proofs.answers.Lookup.{the-type}
 use Rattle.collection.specs.Tally.{freeEntry, tallyAt, tallyFrom, tallyOf}
 
 -- a lookup that ends in another way than with a page gives none
-unfound : (p : ℕ) (t : Sought) → (tagOf the-type t ≡ 1) ⊎ (tagOf the-type t ≡ 2) → gives p (soughtOf t) ≡ false
-unfolding gives soughtOf
-unfound p (At q a n) (inl e) = let z : _≡_ {A = ℕ} 0 1 = e in absurd (omega arith)
-unfound p (At q a n) (inr e) = let z : _≡_ {A = ℕ} 0 2 = e in absurd (omega arith)
-unfound p (Nowhere n) e = refl
-unfound p Unnamed e = refl
+unfound : (p : ℕ) (t : Lookup) → (tagOf the-type t ≡ 1) ⊎ (tagOf the-type t ≡ 2) → gives p (asLooked t) ≡ false
+unfolding gives asLooked
+unfound p (Found f) (inl e) = let z : _≡_ {A = ℕ} 0 1 = e in absurd (omega arith)
+unfound p (Found f) (inr e) = let z : _≡_ {A = ℕ} 0 2 = e in absurd (omega arith)
+unfound p (NotWritten n) e = refl
+unfound p (Refused r) e = refl
 
 -- block k's valid pages from its page i on
 unfoldable pub validFrom : Device → State → List ℕ → ℕ → ℕ → List ℕ
@@ -62,7 +62,7 @@ module _ (d : Device) (s : State) (spare : List ℕ) (v : Passed d s spare) wher
     too-high h = sym (valid-is ∙ rw (le-ltb x (d .N) h))
 
     -- .. or where lookup of x gives no page ..
-    pub not-given : x < d .N → (t : Sought) → soughtOf t ≡ seek s spare x → (tagOf the-type t ≡ 1) ⊎ (tagOf the-type t ≡ 2) → false ≡ valid s spare p
+    pub not-given : x < d .N → (t : Lookup) → asLooked t ≡ seek s spare x → (tagOf the-type t ≡ 1) ⊎ (tagOf the-type t ≡ 2) → false ≡ valid s spare p
     not-given h t q m = sym (valid-is ∙ rw (lt-ltb x (d .N) h) (ap (gives p) (sym q) ∙ unfound p t m))
 
     -- .. and else if the page given is p.

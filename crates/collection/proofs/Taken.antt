@@ -17,14 +17,14 @@ use Rattle.model.proofs.Bools.{and-l, and-r}
 use Rattle.model.proofs.Lists.{all-each}
 use Rattle.model.proofs.Counting.{map-distinct, pigeonhole}
 use Rattle.model.proofs.Limits.{limits, page-inside, page-split}
-use Rattle.calls.specs.Lookup.{Sought, at, nowhere, unnamed, seek}
+use Rattle.calls.specs.Lookup.{Looked, at, nowhere, unnamed, seek}
 use Rattle.calls.specs.Choice.{Used, blocksOf, pagesOf, usedBy}
 use Rattle.calls.specs.Collection.{valid, usedBlock, victims, gives}
 use Rattle.calls.proofs.Ranking.{Each, both}
 use Rattle.calls.proofs.Choosing.{Own, own-distinct, victims-own, victim-used, victims-distinct, page-taken}
 
 -- a lookup gives one page
-one-given : (p q : ℕ) (t : Sought) → gives p t ≡ true → gives q t ≡ true → p ≡ q
+one-given : (p q : ℕ) (t : Looked) → gives p t ≡ true → gives q t ≡ true → p ≡ q
 unfolding gives
 one-given p q (at r a n) e f = eqb-true p r e ∙ sym (eqb-true q r f)
 one-given p q (nowhere n) e f = absurd (true≢false (sym e))

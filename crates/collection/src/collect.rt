@@ -10,12 +10,12 @@ use state::counts::free_count;
 use state::counts::lowest_free;
 use state::groups::sound;
 use state::opening::Opened;
-use state::opening::check_state;
+use state::opening::open_with_spare;
 use writing::block::store_front;
 use writing::block::write_block;
 ghost use mathlib.Core.Path.{_≡_};
 ghost use mathlib.Core.Bool.{not, _&&_};
-ghost use mathlib.Core.List.{List};
+ghost use mathlib.Core.List.{List, []};
 ghost use Prim.Native.Nat.{ℕ, _≤_};
 ghost use lib.Dec.{eqb};
 ghost use lib.ListN.{length};
@@ -24,27 +24,25 @@ ghost use Rattle.model.specs.Learning.{logicals, sources as sourcesOf};
 ghost use Rattle.model.specs.State.{freeBlocks};
 ghost use Rattle.model.specs.Sound.{isEmpty};
 ghost use Rattle.calls.specs.Choice.{Used, blocksOf, pagesOf, noGain};
-ghost use Rattle.calls.specs.Collection.{victims, moves as movesOf, moveAll, firstMoved, collectDone};
+ghost use Rattle.calls.specs.Collection.{victims, moves as movesOf, admitChecks, moveAll, firstMoved, collectDone};
 ghost use Rattle.calls.specs.History.{collectCall, lend};
 ghost use Rattle.spare.specs.Read.{numbersOf};
 ghost use Rattle.state.specs.Reading.{readState};
 ghost use Rattle.state.specs.Shaped.{Shaped, Passed};
 ghost use Rattle.state.specs.Answers.{collectAnswer};
+ghost use Rattle.state.specs.Opening.{verdict, verdictOf};
 ghost use Rattle.state.specs.Ran.{Ran};
-ghost use Rattle.collection.specs.Admitting.{Admits};
 
 // The device numbers where document 01's 1, 2 and 3 don't apply, else the refusal.
 fn check(state: &[u8], spare: &[u32], plan: &[u32], erased: &[u32]) -> Opened
-    ensures { λ r. ⌜ Admits (lend (readState (now (state .entry))) (now (spare .entry)) (now (plan .entry)) (now (erased .entry))) r ⌝ }
+    ensures { λ r. ⌜ verdictOf r ≡ verdict (admitChecks (lend (readState (now (state .entry))) (now (spare .entry)) (now (plan .entry)) (now (erased .entry))))
+        (readState (now (state .entry)) .device) ⌝ }
 {
-    let opened = check_state(state);
+    let opened = open_with_spare(state, spare);
     let d = match opened {
         Opened::Device(d) => d,
         Opened::Refused(r) => return Opened::Refused(r),
     };
-    if spare.len() != spare::spare_len(d) {
-        return Opened::Refused(Refusal::BadLength);
-    }
     if plan.len() != d.b as usize {
         return Opened::Refused(Refusal::BadLength);
     }
@@ -148,7 +146,7 @@ pub fn collect(
     erased: &mut [u32],
 ) -> Collected
     ensures { λ r. ⌜ Ran (collectCall (now (plan .entry)) (now (erased .entry))) (now (state .entry)) (now (spare .entry)) (collectAnswer r)
-        (now (state .exit)) (now (spare .exit)) (now (plan .exit)) (now (erased .exit)) ⌝ }
+        (record { state = now (state .exit); spare = now (spare .exit); plan = now (plan .exit); erased = now (erased .exit); out = [] }) ⌝ }
 {
     let checked = check(state, spare, plan, erased);
     let d = match checked {

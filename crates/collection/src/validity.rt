@@ -1,7 +1,7 @@
 // Valid pages: which pages are, and how many each block has.
 use crate::choose::FREE;
 use spare::Numbers;
-use state::answers::Sought;
+use state::answers::Lookup;
 use state::counts::count;
 use state::seek::seek;
 ghost use mathlib.Core.Path.{_≡_};
@@ -24,10 +24,10 @@ pub fn valid(state: &[u8], spare: &[u32], d: Numbers, p: u32) -> bool
     if d.n <= x {
         return false;
     }
-    let Sought::At(q, _, _) = seek(state, spare, d, x) else {
+    let Lookup::Found(f) = seek(state, spare, d, x) else {
         return false;
     };
-    p == q
+    p == f.page
 }
 
 // How many valid pages block k has.

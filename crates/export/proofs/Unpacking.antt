@@ -1,22 +1,16 @@
 -- Taking an exported function's number apart gives the answer's values back: no field runs over into the next. Assumes nothing.
-use mathlib.Core.Path.{_≡_, refl, sym, subst}
+use mathlib.Core.Path.{_≡_, sym, subst}
 use mathlib.Core.List.{List}
-use mathlib.Core.Option.{Option, none, some}
 use mathlib.Core.Bool.{true, false}
 use Prim.Native.Nat.{ℕ, _+_, _*_, _/_, _%_, _<_}
 use native.Mathlib.Omega.{arith}
-use borrow.Author.Tests.{not-false}
-use Rattle.model.specs.Levels.{recordCount}
-use Rattle.model.specs.State.{State, groupAt}
-use Rattle.model.specs.Sound.{soundGroup}
-use Rattle.model.proofs.SoundGroup.{group-parts}
-use Rattle.calls.specs.Refusals.{Refusal, refusalNumber, firstRefusal}
-use Rattle.calls.specs.Outcome.{Answer, formatted, flushed, found, notWritten, collected, compacted, agreed, refused}
+use Rattle.calls.specs.Refusals.{refusalNumber}
+use Rattle.calls.specs.Outcome.{Answer, formatted, flushed, found, notWritten, collected, compacted, agreed, listed, refused}
 use Rattle.calls.specs.History.{Call}
-use Rattle.calls.proofs.Refusing.{clears}
-use Rattle.lookup.specs.Listing as listing
-use Rattle.export.specs.Packing.{bit20, bit40, bit56, bit60, packed, packedListing, Fitting, Packs}
-use Rattle.export.proofs.Bounds.{ran-fits}
+use Rattle.calls.specs.Bounds.{Bounded}
+use Rattle.state.specs.Ran.{Slices}
+use Rattle.export.specs.Packing.{bit20, bit40, bit56, bit60, packed, Packs}
+use Rattle.state.proofs.Bounds.{ran-bounded}
 
 -- The fields of a number, from the highest down.
 pub record Fields (r refusal found third second first : ℕ) : Type 0 where
@@ -40,10 +34,11 @@ Unpacked r (collected p n e) = Fields r 0 0 e n p
 Unpacked r (compacted n) = Fields r 0 0 0 0 n
 Unpacked r (agreed true) = Fields r 0 0 0 0 1
 Unpacked r (agreed false) = Fields r 0 0 0 0 0
+Unpacked r (listed n) = Fields r 0 0 0 0 n
 Unpacked r (refused x) = Fields r (refusalNumber x) 0 0 0 0
 
-answer-unpacked : (a : Answer) → Fitting a → Unpacked (packed a) a
-unfolding Unpacked packed Fitting
+answer-unpacked : (a : Answer) → Bounded a → Unpacked (packed a) a
+unfolding Unpacked packed Bounded
 answer-unpacked formatted h = unpacks 0 0 0 0 0 _ (omega arith) (omega arith) (omega arith) (omega arith) (omega arith)
 answer-unpacked (flushed p n) h = unpacks 0 0 0 n p _ (omega arith) (omega arith) (omega arith) (omega arith) (omega arith)
 answer-unpacked (found p q n) h = unpacks 0 1 n q p _ (omega arith) (omega arith) (omega arith) (omega arith) (omega arith)
@@ -52,26 +47,9 @@ answer-unpacked (collected p n e) h = unpacks 0 0 e n p _ (omega arith) (omega a
 answer-unpacked (compacted n) h = unpacks 0 0 0 0 n _ (omega arith) (omega arith) (omega arith) (omega arith) (omega arith)
 answer-unpacked (agreed true) h = unpacks 0 0 0 0 1 _ (omega arith) (omega arith) (omega arith) (omega arith) (omega arith)
 answer-unpacked (agreed false) h = unpacks 0 0 0 0 0 _ (omega arith) (omega arith) (omega arith) (omega arith) (omega arith)
+answer-unpacked (listed n) h = unpacks 0 0 0 0 n _ (omega arith) (omega arith) (omega arith) (omega arith) (omega arith)
 answer-unpacked (refused x) h = unpacks (refusalNumber x) 0 0 0 0 _ (omega arith) (omega arith) (omega arith) (omega arith) (omega arith)
 
 -- Whatever a call exported answers, its fields are those of document 01's answer.
-pub unpacked : {c : Call} {state spare : List ℕ} {r : ℕ} {state′ spare′ plan′ erased′ : List ℕ} → (p : Packs c state spare r state′ spare′ plan′ erased′) → Unpacked r (p .answer)
-unpacked p = subst (λ (n : ℕ). Unpacked n (p .answer)) (sym (p .is)) (answer-unpacked (p .answer) (ran-fits (p .ran)))
-
--- The fields that a listing's number has.
-pub UnpackedListing : ℕ → listing.Answer → Type 0
-UnpackedListing r (listing.records n) = Fields r 0 0 0 0 n
-UnpackedListing r (listing.refused x) = Fields r (refusalNumber x) 0 0 0 0
-
--- Likewise for a listing: a group that is listed has at most 512 records.
-pub listing-unpacked : (k : ℕ) (s : State) (out : List ℕ) → UnpackedListing (packedListing (listing.list k s out .answer)) (listing.list k s out .answer)
-unfolding listing.list listing.listChecks listing.listDone listing.outcome packedListing UnpackedListing
-listing-unpacked k s out = go (firstRefusal (listing.listChecks k s out)) refl
-  where
-    go : (o : Option Refusal) → firstRefusal (listing.listChecks k s out) ≡ o
-        → UnpackedListing (packedListing (listing.outcome o out (listing.listDone k s out) .answer)) (listing.outcome o out (listing.listDone k s out) .answer)
-    go none e =
-        let sound = not-false (soundGroup (s .device .N) k (groupAt s k)) (clears _ e .1 .1 .1 .0) in
-        let few = group-parts (s .device .N) k (groupAt s k) sound .limit in
-        unpacks 0 0 0 0 (recordCount (groupAt s k)) _ (omega arith) (omega arith) (omega arith) (omega arith) (omega arith)
-    go (some x) e = unpacks (refusalNumber x) 0 0 0 0 _ (omega arith) (omega arith) (omega arith) (omega arith) (omega arith)
+pub unpacked : {c : Call} {state spare : List ℕ} {r : ℕ} {left : Slices} → (p : Packs c state spare r left) → Unpacked r (p .answer)
+unpacked p = subst (λ (n : ℕ). Unpacked n (p .answer)) (sym (p .is)) (answer-unpacked (p .answer) (ran-bounded (p .ran)))

@@ -3,13 +3,12 @@
 use mathlib.Core.Path.{_≡_}
 use mathlib.Core.List.{List}
 use mathlib.Core.Bool.{true, false}
-use Prim.Native.Nat.{ℕ, _+_, _*_, _≤_, _<_}
+use Prim.Native.Nat.{ℕ, _+_, _*_}
 use Rattle.model.specs.Device.{Device, withinLimits, stateLength, spareLength}
 use Rattle.calls.specs.Refusals.{refusalNumber}
-use Rattle.calls.specs.Outcome.{Answer, formatted, flushed, found, notWritten, collected, compacted, agreed, refused}
+use Rattle.calls.specs.Outcome.{Answer, formatted, flushed, found, notWritten, collected, compacted, agreed, listed, refused}
 use Rattle.calls.specs.History.{Call}
-use Rattle.state.specs.Ran.{Ran}
-use Rattle.lookup.specs.Listing as listing
+use Rattle.state.specs.Ran.{Slices, Ran}
 
 -- The places of the fields behind the first.
 abbrev pub bit20 : ℕ
@@ -34,29 +33,13 @@ packed (collected p n e) = e * bit40 + n * bit20 + p
 packed (compacted n) = n
 packed (agreed true) = 1
 packed (agreed false) = 0
+packed (listed n) = n
 packed (refused r) = refusalNumber r * bit60
 
--- The number of a listing's answer: the records, or the refusal.
-unfoldable pub packedListing : listing.Answer → ℕ
-packedListing (listing.records n) = n
-packedListing (listing.refused r) = refusalNumber r * bit60
-
--- Each value is one that its field holds: pages below 2^20, at most 512 levels, a block's pages, a device's blocks, a group's
--- records.
-unfoldable pub Fitting : Answer → Type 0
-Fitting formatted = Unit {0}
-Fitting (flushed p n) = (p < bit20) × (n ≤ 256)
-Fitting (found p q n) = (p < bit20) × (q < bit20) × (n ≤ 512)
-Fitting (notWritten n) = n ≤ 512
-Fitting (collected p n e) = (p < bit20) × (n ≤ 256) × (e ≤ 4096)
-Fitting (compacted n) = n ≤ 512
-Fitting (agreed t) = Unit {0}
-Fitting (refused r) = Unit {0}
-
 -- What an exported call promises: it ran as document 01 says, and r is its answer's number.
-pub record Packs (c : Call) (state spare : List ℕ) (r : ℕ) (state′ spare′ plan′ erased′ : List ℕ) : Type 0 where
+pub record Packs (c : Call) (state spare : List ℕ) (r : ℕ) (left : Slices) : Type 0 where
   pub answer : Answer
-  pub ran : Ran c state spare answer state′ spare′ plan′ erased′
+  pub ran : Ran c state spare answer left
   pub is : r ≡ packed answer
 
 -- A length that device numbers give; 0 where they are outside their limits.

@@ -14,11 +14,11 @@ use upkeep::format::format;
 ghost use mathlib.Core.Path.{_≡_};
 ghost use mathlib.Core.List.{List, []};
 ghost use Prim.Native.Nat.{ℕ};
-ghost use Rattle.calls.specs.History.{formatCall, flushCall, lookupCall, collectCall, compactCall, agreeCall};
+ghost use Rattle.calls.specs.History.{formatCall, flushCall, lookupCall, collectCall, compactCall, agreeCall, listCall};
 ghost use Rattle.state.specs.Reading.{numbersAt, readState};
 ghost use Rattle.state.specs.Outside.{SameOutside};
-ghost use Rattle.lookup.specs.Listing.{list};
-ghost use Rattle.export.specs.Packing.{packedListing, Packs, stateLen, spareLen};
+ghost use Rattle.state.specs.Ran.{deviceSlices, listingSlices};
+ghost use Rattle.export.specs.Packing.{Packs, stateLen, spareLen};
 
 // The length of the state, in bytes; 0 where the numbers are outside their limits.
 #[no_mangle]
@@ -55,7 +55,7 @@ pub extern "C" fn hedjosur_format(
     spare: &mut [u32],
 ) -> u64
     ensures { λ r. ⌜ Packs (formatCall (record { M = m; B = b; N = n; g = g }))
-        (now (state .entry)) (now (spare .entry)) r (now (state .exit)) (now (spare .exit)) [] [] ⌝ }
+        (now (state .entry)) (now (spare .entry)) r (deviceSlices (now (state .exit)) (now (spare .exit))) ⌝ }
 {
     pack::format(format(m, b, n, g, state, spare))
 }
@@ -69,7 +69,7 @@ pub extern "C" fn hedjosur_flush(
     plan: &mut [u32],
 ) -> u64
     ensures { λ r. ⌜ Packs (flushCall (now (batch .entry)) (now (plan .entry))) (now (state .entry)) (now (spare .entry)) r
-        (now (state .exit)) (now (spare .exit)) (now (plan .exit)) [] ⌝ }
+        (record { state = now (state .exit); spare = now (spare .exit); plan = now (plan .exit); erased = []; out = [] }) ⌝ }
 {
     pack::flush(flush(state, spare, batch, plan))
 }
@@ -78,7 +78,7 @@ pub extern "C" fn hedjosur_flush(
 #[no_mangle]
 pub extern "C" fn hedjosur_lookup(state: &[u8], spare: &[u32], page: u32) -> u64
     ensures { λ r. ⌜ Packs (lookupCall page) (now (state .entry)) (now (spare .entry)) r
-        (now (state .entry)) (now (spare .entry)) [] [] ⌝ }
+        (deviceSlices (now (state .entry)) (now (spare .entry))) ⌝ }
 {
     pack::lookup(lookup(state, spare, page))
 }
@@ -92,7 +92,7 @@ pub extern "C" fn hedjosur_collect(
     erased: &mut [u32],
 ) -> u64
     ensures { λ r. ⌜ Packs (collectCall (now (plan .entry)) (now (erased .entry))) (now (state .entry)) (now (spare .entry)) r
-        (now (state .exit)) (now (spare .exit)) (now (plan .exit)) (now (erased .exit)) ⌝ }
+        (record { state = now (state .exit); spare = now (spare .exit); plan = now (plan .exit); erased = now (erased .exit); out = [] }) ⌝ }
 {
     pack::collect(collect(state, spare, plan, erased))
 }
@@ -100,7 +100,7 @@ pub extern "C" fn hedjosur_collect(
 // Document 01's compaction: the records left. Each byte outside the group's part stays.
 #[no_mangle]
 pub extern "C" fn hedjosur_compact(state: &mut [u8], group: u32) -> u64
-    ensures packs { λ r. ⌜ ((spare : List ℕ) → Packs (compactCall group) (now (state .entry)) spare r (now (state .exit)) spare [] []) ⌝ }
+    ensures packs { λ r. ⌜ ((spare : List ℕ) → Packs (compactCall group) (now (state .entry)) spare r (deviceSlices (now (state .exit)) spare)) ⌝ }
     ensures outside { λ _. ⌜ SameOutside (numbersAt (now (state .entry))) group (now (state .entry)) (now (state .exit)) ⌝ }
 {
     pack::compact(compact(state, group))
@@ -115,7 +115,7 @@ pub extern "C" fn hedjosur_agree(
     spare_b: &[u32],
 ) -> u64
     ensures { λ r. ⌜ ((state spare : List ℕ) → Packs (agreeCall (readState (now («state_a» .entry))) (now («spare_a» .entry)) (readState (now («state_b» .entry))) (now («spare_b» .entry)))
-        state spare r state spare [] []) ⌝ }
+        state spare r (deviceSlices state spare)) ⌝ }
 {
     pack::agree(agree(state_a, spare_a, state_b, spare_b))
 }
@@ -123,8 +123,8 @@ pub extern "C" fn hedjosur_agree(
 // Lists a group, ten bytes a record at the start of `out`: the records.
 #[no_mangle]
 pub extern "C" fn hedjosur_list(state: &[u8], group: u32, out: &mut [u8]) -> u64
-    ensures { λ r. ⌜ r ≡ packedListing (list group (readState (now (state .entry))) (now (out .entry)) .answer) ⌝ }
-    ensures { λ _. ⌜ now (out .exit) ≡ list group (readState (now (state .entry))) (now (out .entry)) .out ⌝ }
+    ensures { λ r. ⌜ ((spare : List ℕ) → Packs (listCall group (now (out .entry))) (now (state .entry)) spare r
+        (listingSlices (now (state .entry)) spare (now (out .exit)))) ⌝ }
 {
     pack::list(list(state, group, out))
 }

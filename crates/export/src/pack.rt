@@ -10,9 +10,9 @@ use state::answers::Refusal;
 use state::answers::number;
 ghost use mathlib.Core.Path.{_≡_};
 ghost use Rattle.calls.specs.Outcome.{refused};
-ghost use Rattle.state.specs.Answers.{refusalOf, formatAnswer, flushAnswer, lookupAnswer, collectAnswer, compactAnswer, agreeAnswer};
-ghost use Rattle.lookup.specs.Listing.{listAnswer};
-ghost use Rattle.export.specs.Packing.{packed, packedListing, Fitting};
+ghost use Rattle.calls.specs.Bounds.{Bounded};
+ghost use Rattle.state.specs.Answers.{refusalOf, formatAnswer, flushAnswer, lookupAnswer, collectAnswer, compactAnswer, agreeAnswer, listAnswer};
+ghost use Rattle.export.specs.Packing.{packed};
 
 // The places of the fields behind the first.
 const BIT20: u64 = 1048576;
@@ -49,18 +49,20 @@ pub fn flush(a: Flushed) -> u64
 }
 
 pub fn lookup(a: Lookup) -> u64
-    requires { ⌜ Fitting (lookupAnswer a) ⌝ }
+    requires { ⌜ Bounded (lookupAnswer a) ⌝ }
     ensures { λ n. ⌜ n ≡ packed (lookupAnswer a) ⌝ }
 {
     match a {
-        Lookup::Found(p, q, n) => BIT56 + (n as u64) * BIT40 + (q as u64) * BIT20 + (p as u64),
+        Lookup::Found(f) => {
+            BIT56 + (f.levels as u64) * BIT40 + (f.predicted as u64) * BIT20 + (f.page as u64)
+        }
         Lookup::NotWritten(n) => (n as u64) * BIT40,
         Lookup::Refused(r) => refused(r),
     }
 }
 
 pub fn collect(a: Collected) -> u64
-    requires { ⌜ Fitting (collectAnswer a) ⌝ }
+    requires { ⌜ Bounded (collectAnswer a) ⌝ }
     ensures { λ n. ⌜ n ≡ packed (collectAnswer a) ⌝ }
 {
     match a {
@@ -89,7 +91,7 @@ pub fn agree(a: Agreed) -> u64
 }
 
 pub fn list(a: Listed) -> u64
-    ensures { λ n. ⌜ n ≡ packedListing (listAnswer a) ⌝ }
+    ensures { λ n. ⌜ n ≡ packed (listAnswer a) ⌝ }
 {
     match a {
         Listed::Done(n) => n as u64,

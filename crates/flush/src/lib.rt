@@ -7,7 +7,7 @@ use state::counts::free_count;
 use state::counts::lowest_free;
 use state::groups::sound;
 use state::opening::Opened;
-use state::opening::check_state;
+use state::opening::open_with_spare;
 use writing::block::write_block;
 ghost use mathlib.Core.Path.{_≡_};
 ghost use mathlib.Core.Bool.{true, _||_};
@@ -20,14 +20,14 @@ ghost use Rattle.model.specs.Device.{spareLength};
 ghost use Rattle.model.specs.Spare.{programBlock};
 ghost use Rattle.model.specs.Learning.{sorted, logicals, sources};
 ghost use Rattle.model.specs.Sound.{isEmpty, soundState};
-ghost use Rattle.calls.specs.Flush.{writeState};
+ghost use Rattle.calls.specs.Flush.{flushChecks, writeState};
 ghost use Rattle.calls.specs.History.{flushCall, lend};
 ghost use Rattle.spare.specs.Read.{numbersOf};
 ghost use Rattle.state.specs.Reading.{readState};
 ghost use Rattle.state.specs.Shaped.{Shaped};
 ghost use Rattle.state.specs.Answers.{flushAnswer};
+ghost use Rattle.state.specs.Opening.{verdict, verdictOf};
 ghost use Rattle.state.specs.Ran.{Ran};
-ghost use Rattle.flush.specs.Clearing.{Clears};
 
 // Whether the size is wrong: "5, batch empty or longer than B".
 fn wrong_size(batch: &[u32], b: u32) -> bool
@@ -55,17 +55,14 @@ fn in_range(batch: &[u32], n: u32) -> bool
 
 // The device numbers where the flush is not refused, else its refusal: 1, 2, 3, 5, 4, 6, the first that applies.
 fn check(state: &[u8], spare: &[u32], batch: &[u32], plan: &[u32]) -> Opened
-    ensures { λ r. ⌜ Clears (now (batch .entry))
-        (lend (readState (now (state .entry))) (now (spare .entry)) (now (plan .entry)) []) r ⌝ }
+    ensures { λ r. ⌜ verdictOf r ≡ verdict (flushChecks (now (batch .entry))
+        (lend (readState (now (state .entry))) (now (spare .entry)) (now (plan .entry)) [])) (readState (now (state .entry)) .device) ⌝ }
 {
-    let opened = check_state(state);
+    let opened = open_with_spare(state, spare);
     let d = match opened {
         Opened::Device(d) => d,
         Opened::Refused(r) => return Opened::Refused(r),
     };
-    if spare.len() != spare::spare_len(d) {
-        return Opened::Refused(Refusal::BadLength);
-    }
     if plan.len() != d.b as usize {
         return Opened::Refused(Refusal::BadLength);
     }
@@ -111,7 +108,7 @@ fn write_batch(
 // Document 01's flush.
 pub fn flush(state: &mut [u8], spare: &mut [u32], batch: &[u32], plan: &mut [u32]) -> Flushed
     ensures { λ r. ⌜ Ran (flushCall (now (batch .entry)) (now (plan .entry))) (now (state .entry)) (now (spare .entry)) (flushAnswer r)
-        (now (state .exit)) (now (spare .exit)) (now (plan .exit)) [] ⌝ }
+        (record { state = now (state .exit); spare = now (spare .exit); plan = now (plan .exit); erased = []; out = [] }) ⌝ }
 {
     let opened = check(state, spare, batch, plan);
     let d = match opened {

@@ -1,11 +1,9 @@
 -- Demand 3 on the bytes: read, a run is a step of the definitions. So the functions simulate the definitions, and the theorem about
 -- these is one about those. Assumes nothing.
-use mathlib.Core.Path.{_≡_, refl, sym, _∙_, ap, ap₂, subst}
-use mathlib.Core.List.{List}
-use Prim.Native.Nat.{ℕ}
+use mathlib.Core.Path.{_≡_, refl, sym, _∙_, ap, subst}
 use lib.ListN.{length}
 use Rattle.model.specs.State.{freeBlocks}
-use Rattle.calls.specs.Outcome.{Answer, Outcome}
+use Rattle.calls.specs.Outcome.{Lent, Answer, Outcome}
 use Rattle.calls.specs.Book.{enter}
 use Rattle.calls.specs.History.{Call, run, entryOf, Past, pastAfter, step}
 use Rattle.calls.specs.Demand3.{definitions, Defined, FromFormat}
@@ -20,10 +18,13 @@ unfolding step pastAfter
 run-step h c a h′ k =
     let o : Outcome = run c (readState (h .state)) (h .spare) in
     let r = k .ran in
+    let l = k .left in
+    let state : readState (h′ .state) ≡ o .after .state = ap readState (k .state) ∙ ap (λ (x : Lent). x .state) (r .leaves) in
+    let spare : h′ .spare ≡ o .after .spare = k .spare ∙ ap (λ (x : Lent). x .spare) (r .leaves) in
     let b : h′ .book ≡ enter (entryOf c (o .answer) (o .after .plan) (o .after .erased)) (h .book) =
-    k .entered ∙ ap (λ (x : Answer). enter (entryOf c x (k .plan) (k .erased)) (h .book)) (r .answered)
-    ∙ ap₂ (λ (p q : List ℕ). enter (entryOf c (o .answer) p q) (h .book)) (r .planLeft) (r .erasedLeft) in
-    record { answered = r .answered; left = λ i. record { state = r .stateRead i; spare = r .spareLeft i; book = b i } }
+    k .entered ∙ ap (λ (x : Answer). enter (entryOf c x (l .plan) (l .erased)) (h .book)) (r .answered)
+    ∙ ap (λ (x : Lent). enter (entryOf c (o .answer) (x .plan) (x .erased)) (h .book)) (r .leaves) in
+    record { answered = r .answered; left = λ i. record { state = state i; spare = spare i; book = b i } }
 
 -- buffers are related to what they are read as
 abbrev Read : Buffers → Past → Type 0

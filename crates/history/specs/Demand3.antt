@@ -11,7 +11,7 @@ use Rattle.calls.specs.History.{Call, entryOf, Past}
 use Rattle.calls.specs.Demand3 as calls
 use Rattle.calls.specs.Demand3.{Machine, agreementOf}
 use Rattle.state.specs.Reading.{readState}
-use Rattle.state.specs.Ran.{Ran}
+use Rattle.state.specs.Ran.{Slices, Ran}
 
 -- The lent bytes and entries between two calls, and the book so far.
 pub record Buffers : Type 0 where
@@ -22,10 +22,11 @@ pub record Buffers : Type 0 where
 -- One run of a call's function: it was lent these buffers (its lists stand in c), followed its contract, and left those; the book
 -- is fed its arguments and answer, plan and erased list included.
 pub record Runs (h : Buffers) (c : Call) (a : Answer) (h′ : Buffers) : Type 0 where
-  pub plan : List ℕ
-  pub erased : List ℕ
-  pub ran : Ran c (h .state) (h .spare) a (h′ .state) (h′ .spare) plan erased
-  pub entered : h′ .book ≡ enter (entryOf c a plan erased) (h .book)
+  pub left : Slices
+  pub ran : Ran c (h .state) (h .spare) a left
+  pub state : h′ .state ≡ left .state
+  pub spare : h′ .spare ≡ left .spare
+  pub entered : h′ .book ≡ enter (entryOf c a (left .plan) (left .erased)) (h .book)
 
 -- The functions as a machine.
 abbrev pub functions : Machine

@@ -1,27 +1,26 @@
 -- A call on the parts in use: what it promises of the parts it promises of the memory. Assumes nothing.
 use mathlib.Core.Path.{_≡_, refl, sym, ap, _∙_}
-use mathlib.Core.List.{List, [], _∷_, _++_}
-use mathlib.Core.Option.{none}
-use mathlib.Core.Bool.{true, not}
+use mathlib.Core.List.{List, _∷_, _++_}
+use mathlib.Core.Bool.{true}
 use Prim.Native.Nat.{ℕ, zero, suc, _≤_}
 use native.Mathlib.Omega.{arith}
 use lib.ListN.{length, take, drop, replicate}
 use lib.Seq.{length-take-le, take-at}
 use borrow.Author.Tests.{eq-eqb, ne-eqb}
 use Rattle.model.specs.Device.{Device, withinLimits, stateLength, spareLength}
-use Rattle.calls.specs.Refusals.{badNumbers, badLength, _when_, firstRefusal}
-use Rattle.calls.specs.Outcome.{Answer, number, accepted, formatted, Outcome}
-use Rattle.calls.specs.Format.{formatChecks, formatDone, format}
-use Rattle.calls.specs.History.{Call, formatCall, flushCall, lookupCall, collectCall, compactCall, lend, run}
+use Rattle.calls.specs.Outcome.{Lent, Answer, number, formatted, Outcome}
+use Rattle.calls.specs.Format.{formatChecks, formatDone}
+use Rattle.calls.specs.History.{Call, formatCall, flushCall, lookupCall, collectCall, compactCall, lend, lentTo, checksOf, effect, run}
 use Rattle.calls.proofs.Decided.{unless-accepts}
-use Rattle.calls.proofs.Refusing.{right-length, is-clear}
+use Rattle.calls.proofs.Refusing.{right-length, is-clear, numbered-refused}
 use Rattle.state.specs.Reading.{readState}
-use Rattle.state.specs.Ran.{Ran}
-use Rattle.listing.specs.Memory.{Obeyed, callOf, takesDevice, Ready, heldBy, Takes}
+use Rattle.state.specs.Ran.{Slices, Ran}
+use Rattle.listing.specs.Memory.{Obeyed, callOf, takesDevice, InMemory, heldBy, Takes}
 use Rattle.listing.specs.declared.lent.Held.{Held}
 use Rattle.listing.specs.declared.lent.Taken.{Taken}
 use Rattle.listing.specs.declared.lent.Taken.the-variants as taken
 use Rattle.listing.proofs.Room.{taken-within, room}
+use Rattle.listing.specs.Sizes.{spareRoom, stateRoom}
 
 -- the first n elements are n
 pub front-length : {A : Type 0} (n : ℕ) (l : List A) → n ≤ length l → n ≡ length (take n l)
@@ -42,15 +41,14 @@ pub obeyed-as : {c d : Call} {s p n : ℕ} {state spare state′ spare′ : List
 obeyed-as e o = rw e at o
 
 -- what a call promises of the parts
-pub obeyed : {c : Call} {s p n : ℕ} {state spare part entries plan erased state′ spare′ : List ℕ} {a : Answer}
-    → Ran c (take s state) (take p spare) a part entries plan erased → n ≡ number a → take s state′ ≡ part → take p spare′ ≡ entries → Obeyed c s p state spare n state′ spare′
-unfolding accepted
+pub obeyed : {c : Call} {s p n : ℕ} {state spare state′ spare′ : List ℕ} {a : Answer} {left : Slices}
+    → Ran c (take s state) (take p spare) a left → n ≡ number a → take s state′ ≡ left .state → take p spare′ ≡ left .spare → Obeyed c s p state spare n state′ spare′
 obeyed {a = a} r e f g =
     record {
       numbered = e ∙ ap number (r .answered);
-      stateRead = ap readState f ∙ r .stateRead;
-      spareLeft = g ∙ r .spareLeft;
-      refusedBytes = λ h. f ∙ r .refusedBytes (ne-eqb (number a) 0 (λ z. h (e ∙ z)));
+      stateRead = ap readState f ∙ ap (λ (x : Lent). x .state) (r .leaves);
+      spareLeft = g ∙ ap (λ (x : Lent). x .spare) (r .leaves);
+      refusedBytes = λ h. f ∙ r .refusedBytes (numbered-refused a (λ z. h (e ∙ z)));
     }
 
 -- which call an operation is: 2, 3, 4, and 5 for what is left
@@ -73,20 +71,17 @@ module _ (op : ℕ) (numbers : List ℕ) (first : ℕ) (h : Held) where
 
 -- a format of the lengths that the device uses is accepted
 pub format-accepted : (d : Device) (state spare : List ℕ) → withinLimits d ≡ true → length state ≡ stateLength d → length spare ≡ spareLength d → run (formatCall d) (readState state) spare .answer ≡ formatted
-unfolding run format formatChecks formatDone lend readState
+unfolding run lentTo checksOf effect formatChecks formatDone lend readState
 format-accepted d state spare within long fits =
-    let clear : firstRefusal (formatChecks d (lend (readState state) spare [] [])) ≡ none =
-    is-clear (formatChecks d (lend (readState state) spare [] [])) (rw within, (rw (eq-eqb (length state) (stateLength d) long, right-length spare (spareLength d) fits), tt)) in
-    let q : run (formatCall d) (readState state) spare ≡ formatDone d (lend (readState state) spare [] []) = unless-accepts _ _ _ clear in
-    ap (λ (o : Outcome). o .answer) q
+    ap (λ (o : Outcome). o .answer) (unless-accepts _ _ _ (is-clear _ (rw within, (rw (eq-eqb (length state) (stateLength d) long), (right-length spare (spareLength d) fits, tt)))))
 
 -- a device that is taken, formatted in the lengths it uses
 pub takes-device : (d : Device) (s p n : ℕ) (state spare state′ spare′ : List ℕ) → takesDevice d ≡ true → s ≡ stateLength d → p ≡ spareLength d
-    → length state ≡ 26656 → length spare ≡ 8192 → length state′ ≡ 26656 → length spare′ ≡ 8192
+    → length state ≡ stateRoom → length spare ≡ spareRoom → length state′ ≡ stateRoom → length spare′ ≡ spareRoom
     → Obeyed (formatCall d) s p state spare n state′ spare′ → Takes d state spare (taken.Device (record { state = s; spare = p; blocks = d .M; pages = d .B })) state′ spare′
 unfolding number
 takes-device d s p n state spare state′ spare′ t es ep long fits long′ fits′ o =
-    let inside : Ready (heldBy d) state spare = room d state spare t long fits in
+    let inside : InMemory (heldBy d) state spare = room d state spare t long fits in
     let front : length (take (stateLength d) state) ≡ stateLength d = length-take-le (stateLength d) state (omega (arith, inside .stateUsed)) in
     let entries : length (take (spareLength d) spare) ≡ spareLength d = length-take-le (spareLength d) spare (omega (arith, inside .spareUsed)) in
     let accepts = format-accepted d (take (stateLength d) state) (take (spareLength d) spare) (taken-within d t) front entries in
@@ -94,5 +89,5 @@ takes-device d s p n state spare state′ spare′ t es ep long fits long′ fit
     rw (es, ep) (t, refl, room d state′ spare′ t long′ fits′, record { numbered = sym (ap number accepts); stateRead = there .stateRead; spareLeft = there .spareLeft; refusedBytes = λ h. absurd (h refl) })
 
 -- the memory is ready for it
-pub taken-ready : (d : Device) (state spare state′ spare′ : List ℕ) (r : Taken) (h : Held) → r ≡ taken.Device h → Takes d state spare r state′ spare′ → Ready h state′ spare′
+pub taken-ready : (d : Device) (state spare state′ spare′ : List ℕ) (r : Taken) (h : Held) → r ≡ taken.Device h → Takes d state spare r state′ spare′ → InMemory h state′ spare′
 taken-ready d state spare state′ spare′ r h e t = (rw e at t) .2

@@ -8,10 +8,11 @@ use native.Mathlib.Nat.{mul-le-mul-left}
 use borrow.Author.Tests.{leb-true, le-leb, lt-leb}
 use lib.Dec.{leb}
 use lib.ListN.{length}
-use Rattle.model.specs.Device.{Device, withinLimits, groupCount, entriesPerPage, namesPerPage, entriesPerBlock, spareLength, headLength, countLength, groupLength, stateLength}
+use Rattle.model.specs.Device.{Device, withinLimits, groupCount, entriesPerPage, namesPerPage, entriesPerBlock, spareLength, headLength, countLength, groupLength, regions, regionsLength, stateLength}
 use Rattle.model.proofs.Bools.{and-l, and-r}
 use Rattle.model.proofs.Limits.{Limits, limits}
-use Rattle.listing.specs.Memory.{takesDevice, Ready, heldBy}
+use Rattle.listing.specs.Memory.{takesDevice, InMemory, heldBy}
+use Rattle.listing.specs.Sizes.{blockRoom, pageRoom, spareRoom, stateRoom}
 
 module _ (d : Device) where
   -- a device outside the limits is not taken
@@ -20,29 +21,29 @@ module _ (d : Device) where
   not-within e = rw e
 
   -- nor one with more than 1,024 logical pages
-  pub many-pages : withinLimits d ≡ true → 1024 < d .N → takesDevice d ≡ false
+  pub many-pages : withinLimits d ≡ true → pageRoom < d .N → takesDevice d ≡ false
   unfolding takesDevice
-  many-pages e h = rw (e, lt-leb (d .N) 1024 h)
+  many-pages e h = rw (e, lt-leb (d .N) pageRoom h)
 
   -- of the others the spare entries decide
-  pub entries-decide : withinLimits d ≡ true → d .N ≤ 1024 → takesDevice d ≡ leb (spareLength d) 8192
+  pub entries-decide : withinLimits d ≡ true → d .N ≤ pageRoom → takesDevice d ≡ leb (spareLength d) spareRoom
   unfolding takesDevice
-  entries-decide e h = rw (e, le-leb (d .N) 1024 h)
+  entries-decide e h = rw (e, le-leb (d .N) pageRoom h)
 
   -- a device that is taken is within the limits
   pub taken-within : takesDevice d ≡ true → withinLimits d ≡ true
   unfolding takesDevice
-  taken-within t = and-l (withinLimits d) (leb (d .N) 1024 && leb (spareLength d) 8192) t
+  taken-within t = and-l (withinLimits d) (leb (d .N) pageRoom && leb (spareLength d) spareRoom) t
 
   -- it has at most 1,024 logical pages
-  taken-pages : takesDevice d ≡ true → d .N ≤ 1024
+  taken-pages : takesDevice d ≡ true → d .N ≤ pageRoom
   unfolding takesDevice
-  taken-pages t = leb-true (d .N) 1024 (and-l (leb (d .N) 1024) (leb (spareLength d) 8192) (and-r (withinLimits d) (leb (d .N) 1024 && leb (spareLength d) 8192) t))
+  taken-pages t = leb-true (d .N) pageRoom (and-l (leb (d .N) pageRoom) (leb (spareLength d) spareRoom) (and-r (withinLimits d) (leb (d .N) pageRoom && leb (spareLength d) spareRoom) t))
 
   -- and at most 8,192 spare entries
-  taken-entries : takesDevice d ≡ true → spareLength d ≤ 8192
+  taken-entries : takesDevice d ≡ true → spareLength d ≤ spareRoom
   unfolding takesDevice
-  taken-entries t = leb-true (spareLength d) 8192 (and-r (leb (d .N) 1024) (leb (spareLength d) 8192) (and-r (withinLimits d) (leb (d .N) 1024 && leb (spareLength d) 8192) t))
+  taken-entries t = leb-true (spareLength d) spareRoom (and-r (leb (d .N) pageRoom) (leb (spareLength d) spareRoom) (and-r (withinLimits d) (leb (d .N) pageRoom && leb (spareLength d) spareRoom) t))
 
   -- each block has at least 4 spare entries
   four-entries : Limits d → d .M * 4 ≤ spareLength d
@@ -53,20 +54,20 @@ module _ (d : Device) where
       mul-le-mul-left (d .M) four
 
   -- 1,024 logical pages are 4 groups
-  few-groups : d .N ≤ 1024 → groupCount d ≤ 4
+  few-groups : d .N ≤ pageRoom → groupCount d ≤ 4
   unfolding groupCount
   few-groups h = omega arith
 
   -- the longest state that is taken
-  state-room : d .M ≤ 2048 → groupCount d ≤ 4 → stateLength d ≤ 26656
-  unfolding stateLength headLength countLength groupLength
+  state-room : d .M ≤ blockRoom → groupCount d ≤ 4 → stateLength d ≤ stateRoom
+  unfolding stateLength regionsLength regions headLength countLength groupLength
   state-room h k = omega arith
 
   -- its lengths lie inside
-  pub room : (state spare : List ℕ) → takesDevice d ≡ true → length state ≡ 26656 → length spare ≡ 8192 → Ready (heldBy d) state spare
+  pub room : (state spare : List ℕ) → takesDevice d ≡ true → length state ≡ stateRoom → length spare ≡ spareRoom → InMemory (heldBy d) state spare
   room state spare t e f =
       let l : Limits d = limits d (taken-within t) in
-      let blocks : d .M ≤ 2048 = omega (arith, four-entries l, taken-entries t) in
+      let blocks : d .M ≤ blockRoom = omega (arith, four-entries l, taken-entries t) in
       record {
         bytes = e;
         entries = f;

@@ -13,20 +13,21 @@ use Rattle.state.specs.Reading.{readState}
 use Rattle.listing.specs.declared.lent.Held.{Held}
 use Rattle.listing.specs.declared.lent.Taken.{Taken}
 use Rattle.listing.specs.declared.lent.Taken.the-variants as taken
+use Rattle.listing.specs.Sizes.{blockRoom, pageRoom, planRoom, spareRoom, stateRoom}
 
 -- "It takes devices with N up to 1,024 and 8,192 spare entries"
 unfoldable pub takesDevice : Device → Bool
-takesDevice d = withinLimits d && (leb (d .N) 1024 && leb (spareLength d) 8192)
+takesDevice d = withinLimits d && (leb (d .N) pageRoom && leb (spareLength d) spareRoom)
 
 -- The program's memory, and the lengths in use, which lie inside it. 2,048 blocks are the most that 8,192 spare entries allow, and with
 -- them 1,024 logical pages need 26,656 bytes of state.
-pub record Ready (h : Held) (state spare : List ℕ) : Type 0 where
-  pub bytes : length state ≡ 26656
-  pub entries : length spare ≡ 8192
-  pub stateUsed : h .state ≤ 26656
-  pub spareUsed : h .spare ≤ 8192
-  pub blocksUsed : h .blocks ≤ 2048
-  pub pagesUsed : h .pages ≤ 256
+pub record InMemory (h : Held) (state spare : List ℕ) : Type 0 where
+  pub bytes : length state ≡ stateRoom
+  pub entries : length spare ≡ spareRoom
+  pub stateUsed : h .state ≤ stateRoom
+  pub spareUsed : h .spare ≤ spareRoom
+  pub blocksUsed : h .blocks ≤ blockRoom
+  pub pagesUsed : h .pages ≤ planRoom
 
 -- the lengths that a device uses
 abbrev pub heldBy : Device → Held
@@ -50,5 +51,5 @@ callOf op numbers first h =
 
 -- A format: a device that is taken is formatted in the lengths it uses; any other is refused, and the memory stays.
 abbrev pub Takes : Device → List ℕ → List ℕ → Taken → List ℕ → List ℕ → Type 0
-Takes d state spare (taken.Device h) state′ spare′ = (takesDevice d ≡ true) × (h ≡ heldBy d) × Ready h state′ spare′ × Obeyed (formatCall d) (h .state) (h .spare) state spare 0 state′ spare′
+Takes d state spare (taken.Device h) state′ spare′ = (takesDevice d ≡ true) × (h ≡ heldBy d) × InMemory h state′ spare′ × Obeyed (formatCall d) (h .state) (h .spare) state spare 0 state′ spare′
 Takes d state spare taken.Refused state′ spare′ = (takesDevice d ≡ false) × (state′ ≡ state) × (spare′ ≡ spare)

@@ -21,7 +21,19 @@ ghost use Rattle.calls.specs.Outcome.{number as numberOf};
 ghost use Rattle.calls.specs.History.{formatCall, flushCall, lookupCall, collectCall, compactCall};
 ghost use Rattle.spare.specs.Read.{numbersOf};
 ghost use Rattle.state.specs.Answers.{formatAnswer, flushAnswer, lookupAnswer, collectAnswer, compactAnswer};
-ghost use Rattle.listing.specs.Memory.{takesDevice, Ready, Obeyed, callOf, Takes};
+ghost use Rattle.listing.specs.Sizes.{stateRoom, spareRoom, blockRoom, planRoom};
+ghost use Rattle.listing.specs.Memory.{takesDevice, InMemory, Obeyed, callOf, Takes};
+
+// The memory: bytes of state, spare entries, and the blocks, pages of a block and logical pages that they allow.
+pub const STATE: usize = 26656;
+
+pub const SPARE: usize = 8192;
+
+const BLOCKS: usize = 2048;
+
+const PLAN: usize = 256;
+
+const LOGICAL: u32 = 1024;
 
 // The lengths in use: bytes of state, spare entries, blocks, pages of a block. All are 0 until a format is accepted.
 pub struct Held {
@@ -41,7 +53,7 @@ fn looked_up(a: Lookup) -> u32
     ensures { λ n. ⌜ n ≡ numberOf (lookupAnswer a) ⌝ }
 {
     match a {
-        Lookup::Found(_, _, _) => 0,
+        Lookup::Found(_) => 0,
         Lookup::NotWritten(_) => 0,
         Lookup::Refused(r) => number(r),
     }
@@ -76,7 +88,7 @@ fn compacted(a: Compacted) -> u32
 
 // Looks a logical page up.
 fn look_up(state: &[u8], spare: &[u32], held: Held, page: u32) -> u32
-    requires { ⌜ Ready held (now state) (now spare) ⌝ }
+    requires { ⌜ InMemory held (now state) (now spare) ⌝ }
     ensures { λ r. ⌜ Obeyed (lookupCall page) (held .state) (held .spare) (now (state .entry)) (now (spare .entry)) r (now (state .entry)) (now (spare .entry)) ⌝ }
 {
     let s = held.state;
@@ -85,22 +97,22 @@ fn look_up(state: &[u8], spare: &[u32], held: Held, page: u32) -> u32
 }
 
 // A plan of as many entries as the largest block has pages.
-fn plan_buffer() -> [u32; 256]
-    ensures { λ r. ⌜ r ≡ replicate 256 0 ⌝ }
+fn plan_buffer() -> [u32; PLAN]
+    ensures { λ r. ⌜ r ≡ replicate planRoom 0 ⌝ }
 {
-    [0; 256]
+    [0; PLAN]
 }
 
 // A list of erased blocks, of as many entries as the largest device taken has blocks.
-fn erased_buffer() -> [u32; 2048]
-    ensures { λ r. ⌜ r ≡ replicate 2048 0 ⌝ }
+fn erased_buffer() -> [u32; BLOCKS]
+    ensures { λ r. ⌜ r ≡ replicate blockRoom 0 ⌝ }
 {
-    [0; 2048]
+    [0; BLOCKS]
 }
 
 // Flushes a batch.
 fn flush_batch(state: &mut [u8], spare: &mut [u32], held: Held, batch: &[u32]) -> u32
-    requires { ⌜ Ready held (now state) (now spare) ⌝ }
+    requires { ⌜ InMemory held (now state) (now spare) ⌝ }
     ensures { λ r. ⌜ Obeyed (flushCall (now (batch .entry)) (replicate (held .pages) 0)) (held .state) (held .spare)
         (now (state .entry)) (now (spare .entry)) r (now (state .exit)) (now (spare .exit)) ⌝ }
 {
@@ -113,7 +125,7 @@ fn flush_batch(state: &mut [u8], spare: &mut [u32], held: Held, batch: &[u32]) -
 
 // Collects.
 fn collect_blocks(state: &mut [u8], spare: &mut [u32], held: Held) -> u32
-    requires { ⌜ Ready held (now state) (now spare) ⌝ }
+    requires { ⌜ InMemory held (now state) (now spare) ⌝ }
     ensures { λ r. ⌜ Obeyed (collectCall (replicate (held .pages) 0) (replicate (held .blocks) 0)) (held .state) (held .spare)
         (now (state .entry)) (now (spare .entry)) r (now (state .exit)) (now (spare .exit)) ⌝ }
 {
@@ -149,7 +161,7 @@ pub fn call(
     spare: &mut [u32],
     held: Held,
 ) -> u32
-    requires { ⌜ Ready held (now state) (now spare) ⌝ }
+    requires { ⌜ InMemory held (now state) (now spare) ⌝ }
     ensures { λ r. ⌜ Obeyed (callOf op (now (numbers .entry)) first held) (held .state) (held .spare)
         (now (state .entry)) (now (spare .entry)) r (now (state .exit)) (now (spare .exit)) ⌝ }
 {
@@ -168,10 +180,10 @@ fn takes(d: Numbers) -> bool
     if !within_limits(d) {
         return false;
     }
-    if 1024 < d.n {
+    if LOGICAL < d.n {
         return false;
     }
-    spare::spare_len(d) <= 8192
+    spare::spare_len(d) <= SPARE
 }
 
 // Formats the parts that the device uses.
@@ -184,7 +196,7 @@ fn format_parts(state: &mut [u8], s: usize, spare: &mut [u32], p: usize, d: Numb
 
 // Formats a device that is taken; any other leaves the memory as it was.
 pub fn format_device(state: &mut [u8], spare: &mut [u32], d: Numbers) -> Taken
-    requires { ⌜ (length (now state) ≡ 26656) × (length (now spare) ≡ 8192) ⌝ }
+    requires { ⌜ (length (now state) ≡ stateRoom) × (length (now spare) ≡ spareRoom) ⌝ }
     ensures { λ r. ⌜ Takes (numbersOf d) (now (state .entry)) (now (spare .entry)) r (now (state .exit)) (now (spare .exit)) ⌝ }
 {
     if !takes(d) {

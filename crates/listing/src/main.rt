@@ -3,29 +3,33 @@ mod lent;
 mod session;
 mod show;
 
+use lent::SPARE;
+use lent::STATE;
+use session::LINE;
 use session::run;
 ghost use mathlib.Core.Path.{_≡_};
 ghost use lib.ListN.{length};
+ghost use Rattle.listing.specs.Sizes.{lineRoom, stateRoom, spareRoom};
 
 // The bytes of a line that are kept.
-fn line_buffer() -> [u8; 515]
-    ensures { λ r. ⌜ 515 ≡ length r ⌝ }
+fn line_buffer() -> [u8; LINE]
+    ensures { λ r. ⌜ lineRoom ≡ length r ⌝ }
 {
-    [0; 515]
+    [0; LINE]
 }
 
 // The state of the largest device that is taken.
-fn state_buffer() -> [u8; 26656]
-    ensures { λ r. ⌜ 26656 ≡ length r ⌝ }
+fn state_buffer() -> [u8; STATE]
+    ensures { λ r. ⌜ stateRoom ≡ length r ⌝ }
 {
-    [0; 26656]
+    [0; STATE]
 }
 
 // Its spare area.
-fn spare_buffer() -> [u32; 8192]
-    ensures { λ r. ⌜ 8192 ≡ length r ⌝ }
+fn spare_buffer() -> [u32; SPARE]
+    ensures { λ r. ⌜ spareRoom ≡ length r ⌝ }
 {
-    [0; 8192]
+    [0; SPARE]
 }
 
 fn main() {

@@ -9,6 +9,7 @@ use crate::show::show_refused;
 use libc::STDIN_FILENO;
 use lines::read::Line;
 use lines::read::read;
+use lookup::list::LISTING;
 use lookup::list::list;
 use spare::Numbers;
 use state::answers::Listed;
@@ -16,7 +17,9 @@ use state::answers::number;
 ghost use mathlib.Core.Path.{_≡_};
 ghost use Prim.Native.Nat.{_≤_};
 ghost use lib.ListN.{length};
-ghost use Rattle.listing.specs.Memory.{Ready};
+ghost use Rattle.calls.specs.Listing.{listingLength};
+ghost use Rattle.listing.specs.Sizes.{lineRoom, stateRoom, spareRoom};
+ghost use Rattle.listing.specs.Memory.{InMemory};
 ghost use Rattle.listing.specs.Progress.{Going};
 
 // Between two bytes of the script: the lengths that the device uses, and how many bytes of a line have come.
@@ -26,12 +29,12 @@ pub struct Session {
 }
 
 // The line buffer's length. A call's line has at most 514 bytes, so of a longer one the first 515 are a bad line as well as the whole.
-const LINE: usize = 515;
+pub const LINE: usize = 515;
 
 // 1: formats a device, or says that it is refused.
 fn obey_format(state: &mut [u8], spare: &mut [u32], held: Held, d: Numbers) -> Held
-    requires { ⌜ Ready held (now state) (now spare) ⌝ }
-    ensures { λ r. ⌜ Ready r (now (state .exit)) (now (spare .exit)) ⌝ }
+    requires { ⌜ InMemory held (now state) (now spare) ⌝ }
+    ensures { λ r. ⌜ InMemory r (now (state .exit)) (now (spare .exit)) ⌝ }
 {
     let taken = format_device(state, spare, d);
     match taken {
@@ -44,10 +47,10 @@ fn obey_format(state: &mut [u8], spare: &mut [u32], held: Held, d: Numbers) -> H
 }
 
 // A listing of as many records as a group holds.
-fn listing_buffer() -> [u8; 5120]
-    ensures { λ r. ⌜ 5120 ≡ length r ⌝ }
+fn listing_buffer() -> [u8; LISTING]
+    ensures { λ r. ⌜ listingLength ≡ length r ⌝ }
 {
-    [0; 5120]
+    [0; LISTING]
 }
 
 // 6: lists a group, or says that it is refused.
@@ -65,8 +68,8 @@ fn obey_list(state: &[u8], held: Held, group: u32)
 
 // Obeys one line, and answers the lengths in use after it.
 fn obey(line: &[u8], state: &mut [u8], spare: &mut [u32], held: Held) -> Held
-    requires { ⌜ Ready held (now state) (now spare) ⌝ }
-    ensures { λ r. ⌜ Ready r (now (state .exit)) (now (spare .exit)) ⌝ }
+    requires { ⌜ InMemory held (now state) (now spare) ⌝ }
+    ensures { λ r. ⌜ InMemory r (now (state .exit)) (now (spare .exit)) ⌝ }
 {
     let mut numbers = [0u32; 64];
     let Line::Call(op, count) = read(line, &mut numbers) else {
@@ -93,8 +96,8 @@ fn obey(line: &[u8], state: &mut [u8], spare: &mut [u32], held: Held) -> Held
 
 // Obeys the line of which n bytes have come.
 fn end_line(line: &[u8], n: usize, state: &mut [u8], spare: &mut [u32], held: Held) -> Held
-    requires { ⌜ (n ≤ length (now line)) × Ready held (now state) (now spare) ⌝ }
-    ensures { λ r. ⌜ Ready r (now (state .exit)) (now (spare .exit)) ⌝ }
+    requires { ⌜ (n ≤ length (now line)) × InMemory held (now state) (now spare) ⌝ }
+    ensures { λ r. ⌜ InMemory r (now (state .exit)) (now (spare .exit)) ⌝ }
 {
     obey(&line[..n], state, spare, held)
 }
@@ -180,7 +183,7 @@ fn finish(line: &[u8], state: &mut [u8], spare: &mut [u32], s: Session)
 // Obeys the script on standard input. A proved loop has to end, and nothing says that the input does: the turns are counted down from a
 // number that no run uses up.
 pub fn run(input: &mut [u8], line: &mut [u8], state: &mut [u8], spare: &mut [u32])
-    requires { ⌜ (length (now line) ≡ 515) × (length (now state) ≡ 26656) × (length (now spare) ≡ 8192) ⌝ }
+    requires { ⌜ (length (now line) ≡ lineRoom) × (length (now state) ≡ stateRoom) × (length (now spare) ≡ spareRoom) ⌝ }
 {
     let held = Held {
         state: 0,

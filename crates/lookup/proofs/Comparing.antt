@@ -12,51 +12,52 @@ use Rattle.model.proofs.Bools.{is-false, and-r}
 use Rattle.calls.specs.Lookup as calls
 use Rattle.calls.specs.Collection.{gives}
 use Rattle.calls.specs.Agreement.{eachBelow, isNowhere, isNamed, alike}
-use Rattle.state.specs.declared.answers.Sought.{Sought}
-use Rattle.state.specs.declared.answers.Sought.the-variants.{At, Nowhere, Unnamed}
-use Rattle.state.specs.Answers.{soughtOf}
-use Rattle.state.proofs.answers.Sought.{the-type}
+use Rattle.state.specs.declared.answers.Refusal.{Refusal}
+use Rattle.state.specs.declared.answers.Lookup.{Lookup}
+use Rattle.state.specs.declared.answers.Lookup.the-variants.{Found, NotWritten, Refused}
+use Rattle.state.specs.Answers.{asLooked}
+use Rattle.state.proofs.answers.Lookup.{the-type}
 
 -- the place of a variant in its enum, by which a pattern tells them apart
-abbrev pub variant : Sought → ℕ
+abbrev pub variant : Lookup → ℕ
 variant s = tagOf the-type s
 
-pub not-nowhere : (s : Sought) → (variant s ≡ 0) ⊎ (variant s ≡ 2) → false ≡ isNowhere (soughtOf s)
-unfolding isNowhere soughtOf
-not-nowhere (At p q n) e = refl
-not-nowhere (Nowhere n) (inl e) = absurd (omega (arith, e))
-not-nowhere (Nowhere n) (inr e) = absurd (omega (arith, e))
-not-nowhere Unnamed e = refl
+pub not-unwritten : (s : Lookup) → (variant s ≡ 0) ⊎ (variant s ≡ 2) → false ≡ isNowhere (asLooked s)
+unfolding isNowhere asLooked
+not-unwritten (Found f) e = refl
+not-unwritten (NotWritten n) (inl e) = absurd (omega (arith, e))
+not-unwritten (NotWritten n) (inr e) = absurd (omega (arith, e))
+not-unwritten (Refused r) e = refl
 
--- no page was found: there is no record, or none that is named
-pub data Missing : Sought → Type 0 where
-  nowhere : {n : ℕ} → Missing (Nowhere n)
-  unnamed : Missing Unnamed
+-- no page was found: it is not written, or refused
+pub data Missing : Lookup → Type 0 where
+  unwritten : {n : ℕ} → Missing (NotWritten n)
+  unnamed : {r : Refusal} → Missing (Refused r)
 
-pub missing : (s : Sought) → (variant s ≡ 1) ⊎ (variant s ≡ 2) → Missing s
-missing (At p q n) (inl e) = absurd (omega (arith, e))
-missing (At p q n) (inr e) = absurd (omega (arith, e))
-missing (Nowhere n) e = nowhere
-missing Unnamed e = unnamed
+pub missing : (s : Lookup) → (variant s ≡ 1) ⊎ (variant s ≡ 2) → Missing s
+missing (Found f) (inl e) = absurd (omega (arith, e))
+missing (Found f) (inr e) = absurd (omega (arith, e))
+missing (NotWritten n) e = unwritten
+missing (Refused r) e = unnamed
 
-pub missing-named : {s : Sought} → Missing s → isNowhere (soughtOf s) ≡ isNamed (soughtOf s)
-unfolding isNowhere isNamed soughtOf
-missing-named nowhere = refl
+pub missing-named : {s : Lookup} → Missing s → isNowhere (asLooked s) ≡ isNamed (asLooked s)
+unfolding isNowhere isNamed asLooked
+missing-named unwritten = refl
 missing-named unnamed = refl
 
-pub missing-unlike : {s : Sought} → Missing s → isNowhere (soughtOf s) ≡ false → (b : calls.Sought) → false ≡ alike (soughtOf s) b
-unfolding isNowhere alike soughtOf
-missing-unlike nowhere e b = absurd (true≢false e)
+pub missing-unlike : {s : Lookup} → Missing s → isNowhere (asLooked s) ≡ false → (b : calls.Looked) → false ≡ alike (asLooked s) b
+unfolding isNowhere alike asLooked
+missing-unlike unwritten e b = absurd (true≢false e)
 missing-unlike unnamed e b = refl
 
-pub missing-both : {s : Sought} → Missing s → isNowhere (soughtOf s) ≡ true → (b : calls.Sought) → isNowhere b ≡ alike (soughtOf s) b
-unfolding isNowhere alike soughtOf
-missing-both nowhere e b = refl
+pub missing-both : {s : Lookup} → Missing s → isNowhere (asLooked s) ≡ true → (b : calls.Looked) → isNowhere b ≡ alike (asLooked s) b
+unfolding isNowhere alike asLooked
+missing-both unwritten e b = refl
 missing-both unnamed e b = absurd (true≢false (sym e))
 
-pub missing-gives : {s : Sought} → Missing s → (p : ℕ) → false ≡ gives p (soughtOf s)
-unfolding gives soughtOf
-missing-gives nowhere p = refl
+pub missing-gives : {s : Lookup} → Missing s → (p : ℕ) → false ≡ gives p (asLooked s)
+unfolding gives asLooked
+missing-gives unwritten p = refl
 missing-gives unnamed p = refl
 
 -- a number that fails the test

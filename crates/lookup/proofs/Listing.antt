@@ -1,8 +1,8 @@
 -- A listing: slot after slot is stored, until the whole is; and the ways in which the call ends. Assumes nothing.
 use mathlib.Core.Path.{_≡_, refl, sym, ap, _∙_}
-use mathlib.Core.List.{List, flatten}
-use mathlib.Core.Option.{some}
-use mathlib.Core.Bool.{true, false, _||_}
+use mathlib.Core.List.{List, [], _∷_, _++_, map, flatten, append-assoc}
+use mathlib.Core.Option.{none, some}
+use mathlib.Core.Bool.{true, false}
 use Prim.Native.Nat.{ℕ, suc, _+_, _*_, _-_, _≤_, _<_}
 use native.Mathlib.Omega.{arith}
 use native.Mathlib.Numerals.{add-one}
@@ -10,29 +10,38 @@ use lib.ListN.{length, getD, take, drop, drop-of-length-le}
 use lib.Seq.{drop-cons}
 use Rattle.model.specs.Lists.{store}
 use Rattle.model.specs.Device.{Device, groupCount}
-use Rattle.model.specs.Levels.{recordCount}
+use Rattle.model.specs.Levels.{Level, Group, recordCount}
 use Rattle.model.specs.State.{State, groupAt}
 use Rattle.model.specs.Sound.{soundGroup}
 use Rattle.model.proofs.Lists.{store-nil}
-use Rattle.calls.specs.Refusals.{Refusal, badLength, notSound, outOfRange, firstRefusal, wrongLength, wrongState}
-use Rattle.calls.proofs.Refusing.{right-length, wrong-length}
+use Rattle.calls.specs.Refusals.{Refusal, badLength, notSound, outOfRange, _when_, firstRefusal, wrongLength, opening}
+use Rattle.calls.specs.Outcome.{withOut, listed, refused}
+use Rattle.calls.specs.Compaction.{groupChecks}
+use Rattle.calls.specs.Listing.{recordBytes, levelBytes, groupBytes, listingLength, listChecks, listDone}
+use Rattle.calls.specs.History.{listCall, lend, lentTo, checksOf, effect}
+use Rattle.calls.proofs.Refusing.{goes-on, front-refuses, others-decide, refuses-at, right-length, wrong-length}
+use Rattle.bytes.specs.Little.{bytes2}
 use Rattle.bytes.proofs.Stores.{store-then}
+use Rattle.record.specs.Coding.{eight}
 use Rattle.group.specs.declared.Slot.{Slot}
 use Rattle.group.specs.Layout.{slotsOf}
 use Rattle.group.specs.Answers.{noSlot}
-use Rattle.group.specs.Held.{slotsFor}
+use Rattle.group.specs.Cutting.{Placed, inLevel, flatFrom}
+use Rattle.group.specs.Held.{slotFor, slotsFor}
 use Rattle.group.proofs.Slots.{length-slotsOf, few-used}
 use Rattle.group.proofs.Holding.{length-slotsFor, sound-held}
 use Rattle.slots.specs.Coding.{ten}
 use Rattle.slots.specs.View.{Room}
 use Rattle.slots.proofs.Ten.{length-ten}
 use Rattle.state.specs.Reading.{readState}
-use Rattle.state.specs.Shaped.{Shaped}
-use Rattle.state.specs.Opening.{stateChecks}
-use Rattle.lookup.specs.Listing.{listingLength, tens, listed, records, refused, listChecks, listDone, outcome, list}
-use Rattle.state.proofs.Refusing.{state-right}
-use Rattle.state.proofs.GroupChecks.{closed-state, wrong-slice, no-group, unsound-group, sound-group}
+use Rattle.state.specs.Ran.{listingSlices, Ran}
+use Rattle.state.proofs.Refusing.{ran-refused, ran-accepted}
+use Rattle.state.proofs.GroupChecks.{no-group, unsound-group, sound-group}
 use Rattle.state.proofs.Handing.{Lent, part-encodes}
+
+-- the bytes of slots one after the other
+abbrev pub tens : List Slot → List ℕ
+tens l = flatten (map ten l)
 
 -- the slots from slot i on, stored behind those before it
 unfoldable pub listedFrom : List ℕ → List Slot → ℕ → List ℕ
@@ -41,15 +50,28 @@ listedFrom out l i = store out (i * 10) (tens (drop i l))
 -- one more slot stored
 pub listed-on : (l : List Slot) (i : ℕ) (all out out′ : List ℕ) (v : Slot) → i < length l → v ≡ getD l i noSlot → out′ ≡ store out (i * 10) (ten v)
     → all ≡ listedFrom out l i → all ≡ listedFrom out′ l (i + 1)
-unfolding listedFrom tens flatten
+unfolding listedFrom flatten
 listed-on l i all out out′ v h q e so =
     let p : (i + 1) * 10 ≡ i * 10 + length (ten v) = omega (arith, length-ten v) in
     so ∙ rw (e, p, drop-cons l i noSlot h, ← q, add-one i) (sym (store-then out (i * 10) (ten v) (tens (drop (suc i) l))))
 
 -- all of them
 pub listed-all : (l : List Slot) (i : ℕ) (all out : List ℕ) → length l ≤ i → all ≡ listedFrom out l i → out ≡ all
-unfolding listedFrom tens flatten
+unfolding listedFrom flatten
 listed-all l i all out h so = sym (so ∙ rw (drop-of-length-le l h) (store-nil out (i * 10)))
+
+-- the bytes of a group's slots are document 01's of its records and levels
+level-tens : (n : ℕ) (l : Level) (rest : List Placed) → tens (map slotFor (map (inLevel n) l ++ rest)) ≡ levelBytes n l ++ tens (map slotFor rest)
+unfolding levelBytes flatten ten eight recordBytes
+level-tens n [] rest = refl
+level-tens n (r ∷ l) rest =
+    ap (λ (b : List ℕ). ten (slotFor (inLevel n r)) ++ b) (level-tens n l rest)
+    ∙ sym (append-assoc (recordBytes r ++ bytes2 n) (levelBytes n l) (tens (map slotFor rest)))
+
+group-tens : (n : ℕ) (g : Group) → tens (map slotFor (flatFrom n g)) ≡ groupBytes n g
+unfolding flatFrom groupBytes flatten
+group-tens n [] = refl
+group-tens n (l ∷ g) = level-tens n l (flatFrom (suc n) g) ∙ ap (λ (b : List ℕ). levelBytes n l ++ b) (group-tens (suc n) g)
 
 -- a sound group's part has room, and its slots are the group's
 module _ (s : List ℕ) (k a e N : ℕ) (l : Lent s k a e) (sound : soundGroup N k (groupAt (readState s) k) ≡ true) where
@@ -65,39 +87,40 @@ module _ (s : List ℕ) (k a e N : ℕ) (l : Lent s k a e) (sound : soundGroup N
   pub part-count : length (slotsOf part) ≡ recordCount (groupAt (readState s) k)
   part-count = ap length part-slots ∙ length-slotsFor (groupAt (readState s) k)
 
-  pub part-listed : tens (slotsOf part) ≡ listed (groupAt (readState s) k)
-  unfolding listed
-  part-listed = ap tens part-slots
+  pub part-listed : tens (slotsOf part) ≡ groupBytes 0 (groupAt (readState s) k)
+  part-listed = ap tens part-slots ∙ group-tens 0 (groupAt (readState s) k)
 
--- a call on state s: each refusal in order, then the group listed
-module _ (s : State) (k : ℕ) (out : List ℕ) where
-  refuses : (r : Refusal) → firstRefusal (listChecks k s out) ≡ some r → record { answer = refused r; out = out } ≡ list k s out
-  unfolding list outcome
-  refuses r e = rw e
+-- a call: each refusal in order, then the group listed
+module _ (state spare : List ℕ) (k : ℕ) (out : List ℕ) where
+  abbrev s : State
+  s = readState state
 
-  pub list-closed : (r : Refusal) → firstRefusal (stateChecks s) ≡ some r → record { answer = refused r; out = out } ≡ list k s out
-  unfolding listChecks
-  list-closed r e = refuses r (closed-state s k (wrongState s || wrongLength out listingLength) (wrongLength out listingLength) refl r e)
+  refuses : (r : Refusal) → firstRefusal (listChecks k (withOut out (lend s spare [] []))) ≡ some r → Ran (listCall k out) state spare (refused r) (listingSlices state spare out)
+  unfolding checksOf lentTo lend
+  refuses r e = ran-refused (listCall k out) state spare _ r e refl refl
 
-  module _ (d : Device) (h : Shaped d s) where
-    pub list-length : (length out ≡ listingLength → ⊥) → record { answer = refused badLength; out = out } ≡ list k s out
-    unfolding listChecks
-    list-length f = refuses badLength (wrong-slice s k (wrongState s || wrongLength out listingLength) d h (rw (state-right d s h, wrong-length out listingLength f)))
+  pub list-closed : (r : Refusal) → firstRefusal (opening s) ≡ some r → Ran (listCall k out) state spare (refused r) (listingSlices state spare out)
+  unfolding listChecks lend
+  list-closed r e = refuses r (front-refuses (opening s) _ e)
+
+  module _ (d : Device) (passed : (firstRefusal (opening s) ≡ none) × (s .device ≡ d)) where
+    pub list-length : (length out ≡ listingLength → ⊥) → Ran (listCall k out) state spare (refused badLength) (listingSlices state spare out)
+    unfolding listChecks lend
+    list-length f = refuses badLength (others-decide (opening s) _ (passed .0) ∙ refuses-at 0 _ refl tt (wrong-length out listingLength f))
 
     module _ (fits : length out ≡ listingLength) where
-      lengths-right : (wrongState s || wrongLength out listingLength) ≡ false
-      lengths-right = rw (state-right d s h, right-length out listingLength fits)
+      on-group : firstRefusal (listChecks k (withOut out (lend s spare [] []))) ≡ firstRefusal (groupChecks k s)
+      unfolding listChecks lend
+      on-group = others-decide (opening s) _ (passed .0) ∙ goes-on (badLength when wrongLength out listingLength) _ (right-length out listingLength fits)
 
-      pub list-range : groupCount d ≤ k → record { answer = refused outOfRange; out = out } ≡ list k s out
-      unfolding listChecks
-      list-range l = refuses outOfRange (no-group s k (wrongState s || wrongLength out listingLength) d h lengths-right l)
+      pub list-range : groupCount d ≤ k → Ran (listCall k out) state spare (refused outOfRange) (listingSlices state spare out)
+      list-range l = refuses outOfRange (on-group ∙ no-group s k d (passed .1) l)
 
       module _ (inside : k < groupCount d) where
-        pub list-unsound : soundGroup (d .N) k (groupAt s k) ≡ false → record { answer = refused notSound; out = out } ≡ list k s out
-        unfolding listChecks
-        list-unsound f = refuses notSound (unsound-group s k (wrongState s || wrongLength out listingLength) d h lengths-right inside f)
+        pub list-unsound : soundGroup (d .N) k (groupAt s k) ≡ false → Ran (listCall k out) state spare (refused notSound) (listingSlices state spare out)
+        list-unsound f = refuses notSound (on-group ∙ unsound-group s k d (passed .1) inside f)
 
-        pub list-done : soundGroup (d .N) k (groupAt s k) ≡ true → (n : ℕ) (out′ : List ℕ) → n ≡ recordCount (groupAt s k) → out′ ≡ store out 0 (listed (groupAt s k))
-            → record { answer = records n; out = out′ } ≡ list k s out
-        unfolding list listChecks listDone outcome
-        list-done f n out′ e q = rw (sound-group s k (wrongState s || wrongLength out listingLength) d h lengths-right inside f, e, q)
+        pub list-done : soundGroup (d .N) k (groupAt s k) ≡ true → (n : ℕ) (out′ : List ℕ) → n ≡ recordCount (groupAt s k) → out′ ≡ store out 0 (groupBytes 0 (groupAt s k))
+            → Ran (listCall k out) state spare (listed n) (listingSlices state spare out′)
+        unfolding checksOf lentTo lend effect listDone
+        list-done f n out′ e q = ran-accepted (listCall k out) state spare (listed n) _ (on-group ∙ sound-group s k d (passed .1) inside f) (ap listed e) (rw q) (λ _. refl)

@@ -1,18 +1,11 @@
--- What comes of the refusals that a state with its spare area gives in an agreement: document 01's 1, 2 and 3. Assumes nothing.
-use mathlib.Core.Path.{_≡_}
+-- What comes of an agreement behind the checks of both states: "then 7 if any lookup does", else the answer. Assumes nothing.
 use mathlib.Core.List.{List}
-use mathlib.Core.Option.{some}
+use mathlib.Core.Bool.{true, false, _&&_}
 use Prim.Native.Nat.{ℕ}
 use Rattle.model.specs.State.{State}
-use Rattle.calls.specs.Refusals.{firstRefusal}
-use Rattle.calls.specs.Agreement.{stateChecks}
-use Rattle.spare.specs.Read.{numbersOf}
-use Rattle.state.specs.declared.opening.Opened.{Opened}
-use Rattle.state.specs.declared.opening.Opened.the-variants as opened
-use Rattle.state.specs.Shaped.{Passed}
-use Rattle.state.specs.Answers.{refusalOf}
+use Rattle.calls.specs.Refusals.{notNamed}
+use Rattle.calls.specs.Outcome.{Answer, agreed, refused}
+use Rattle.calls.specs.Agreement.{allNamed, agrees}
 
--- device numbers are given where none applies, else the first that does
-unfoldable pub Checks : State → List ℕ → Opened → Type 0
-Checks s spare (opened.Device d) = Passed (numbersOf d) s spare
-Checks s spare (opened.Refused r) = firstRefusal (stateChecks s spare) ≡ some (refusalOf r)
+unfoldable pub compared : State → List ℕ → State → List ℕ → Answer
+compared s spare s′ spare′ = elim (allNamed s spare && allNamed s′ spare′) [ true ↦ agreed (agrees s spare s′ spare′) | false ↦ refused notNamed ]

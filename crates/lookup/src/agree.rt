@@ -6,32 +6,29 @@ use state::answers::Agreed;
 use state::answers::Refusal;
 use state::groups::sound;
 use state::opening::Opened;
-use state::opening::check_state;
+use state::opening::open_with_spare;
 use state::seek::seek;
 ghost use mathlib.Core.Path.{_≡_};
-ghost use mathlib.Core.List.{List, []};
+ghost use mathlib.Core.List.{List};
 ghost use Prim.Native.Nat.{ℕ};
-ghost use Rattle.calls.specs.Agreement.{allNamed};
+ghost use Rattle.calls.specs.Agreement.{soundChecks, allNamed};
 ghost use Rattle.calls.specs.History.{agreeCall};
 ghost use Rattle.spare.specs.Read.{numbersOf};
 ghost use Rattle.state.specs.Reading.{readState};
 ghost use Rattle.state.specs.Shaped.{Passed};
 ghost use Rattle.state.specs.Answers.{agreeAnswer};
-ghost use Rattle.lookup.specs.Agreeing.{Checks};
-ghost use Rattle.state.specs.Ran.{Ran};
+ghost use Rattle.state.specs.Opening.{verdict, verdictOf};
+ghost use Rattle.state.specs.Ran.{deviceSlices, Ran};
 
 // The device numbers of a sound state with its spare area, or the refusal: 1, 2 or 3.
 fn check(state: &[u8], spare: &[u32]) -> Opened
-    ensures { λ r. ⌜ Checks (readState (now (state .entry))) (now (spare .entry)) r ⌝ }
+    ensures { λ r. ⌜ verdictOf r ≡ verdict (soundChecks (readState (now (state .entry))) (now (spare .entry))) (readState (now (state .entry)) .device) ⌝ }
 {
-    let opened = check_state(state);
+    let opened = open_with_spare(state, spare);
     let d = match opened {
         Opened::Device(d) => d,
         Opened::Refused(r) => return Opened::Refused(r),
     };
-    if spare.len() != spare::spare_len(d) {
-        return Opened::Refused(Refusal::BadLength);
-    }
     if !sound(state, d) {
         return Opened::Refused(Refusal::NotSound);
     }
@@ -58,7 +55,7 @@ fn all_named(state: &[u8], spare: &[u32], d: Numbers) -> bool
 // Document 01's agreement. It is lent two states with their spare areas, and writes none of them.
 pub fn agree(state_a: &[u8], spare_a: &[u32], state_b: &[u8], spare_b: &[u32]) -> Agreed
     ensures { λ r. ⌜ ((s spare : List ℕ) → Ran (agreeCall (readState (now («state_a» .entry))) (now («spare_a» .entry)) (readState (now («state_b» .entry))) (now («spare_b» .entry)))
-        s spare (agreeAnswer r) s spare [] []) ⌝ }
+        s spare (agreeAnswer r) (deviceSlices s spare)) ⌝ }
 {
     let first = check(state_a, spare_a);
     let a = match first {

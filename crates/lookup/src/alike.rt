@@ -1,50 +1,51 @@
 // Lookups compared: whether they found a page, and whether two states' lookups give the same.
 use spare::Numbers;
 use state::answers::Agreed;
+use state::answers::Lookup;
 use state::answers::Refusal;
-use state::answers::Sought;
 use state::seek::seek;
 ghost use mathlib.Core.Path.{_≡_};
-ghost use Rattle.calls.specs.Agreement.{isNowhere, isNamed, alike, agree};
+ghost use Rattle.calls.specs.Agreement.{isNowhere, isNamed, alike};
 ghost use Rattle.spare.specs.Read.{numbersOf};
 ghost use Rattle.state.specs.Reading.{readState};
 ghost use Rattle.state.specs.Shaped.{Passed};
-ghost use Rattle.state.specs.Answers.{soughtOf, agreeAnswer};
+ghost use Rattle.state.specs.Answers.{asLooked, agreeAnswer};
+ghost use Rattle.lookup.specs.Agreeing.{compared};
 
-// Whether a lookup found no record.
-fn is_nowhere(sought: Sought) -> bool
-    ensures { λ r. ⌜ r ≡ isNowhere (soughtOf sought) ⌝ }
+// Whether a lookup says 'not written'.
+fn is_not_written(looked: Lookup) -> bool
+    ensures { λ r. ⌜ r ≡ isNowhere (asLooked looked) ⌝ }
 {
-    let Sought::Nowhere(_) = sought else {
+    let Lookup::NotWritten(_) = looked else {
         return false;
     };
     true
 }
 
 // Whether a lookup doesn't refuse 7.
-pub fn is_named(sought: Sought) -> bool
-    ensures { λ r. ⌜ r ≡ isNamed (soughtOf sought) ⌝ }
+pub fn is_named(looked: Lookup) -> bool
+    ensures { λ r. ⌜ r ≡ isNamed (asLooked looked) ⌝ }
 {
-    let Sought::At(_, _, _) = sought else {
-        return is_nowhere(sought);
+    let Lookup::Found(_) = looked else {
+        return is_not_written(looked);
     };
     true
 }
 
 // Whether two lookups give the same page, or 'not written' both.
-fn are_alike(first: Sought, second: Sought) -> bool
-    ensures { λ r. ⌜ r ≡ alike (soughtOf first) (soughtOf second) ⌝ }
+fn are_alike(first: Lookup, second: Lookup) -> bool
+    ensures { λ r. ⌜ r ≡ alike (asLooked first) (asLooked second) ⌝ }
 {
-    let Sought::At(p, _, _) = first else {
-        if !is_nowhere(first) {
+    let Lookup::Found(f) = first else {
+        if !is_not_written(first) {
             return false;
         }
-        return is_nowhere(second);
+        return is_not_written(second);
     };
-    let Sought::At(q, _, _) = second else {
+    let Lookup::Found(g) = second else {
         return false;
     };
-    p == q
+    f.page == g.page
 }
 
 // The agreement of two sound states that have as many logical pages, in one pass: each page is looked up once in each state.
@@ -58,7 +59,7 @@ pub fn compare(
     b: Numbers,
 ) -> Agreed
     requires { ⌜ Passed (numbersOf a) (readState (now «state_a»)) (now «spare_a») × Passed (numbersOf b) (readState (now «state_b»)) (now «spare_b») × (a .n ≡ b .n) ⌝ }
-    ensures { λ r. ⌜ agreeAnswer r ≡ agree (readState (now («state_a» .entry))) (now («spare_a» .entry)) (readState (now («state_b» .entry))) (now («spare_b» .entry)) ⌝ }
+    ensures { λ r. ⌜ agreeAnswer r ≡ compared (readState (now («state_a» .entry))) (now («spare_a» .entry)) (readState (now («state_b» .entry))) (now («spare_b» .entry)) ⌝ }
 {
     let n = a.n;
     let mut same = true;

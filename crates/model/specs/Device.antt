@@ -1,5 +1,6 @@
 -- Document 01, 'The device': the device numbers, pages, blocks, groups, and the lengths they give. Assumes nothing.
 use mathlib.Core.Bool.{Bool, _&&_}
+use mathlib.Core.List.{List, [], _∷_}
 use Prim.Native.Nat.{ℕ, _+_, _*_, _-_, _/_, _%_}
 use lib.Dec.{leb}
 
@@ -58,7 +59,12 @@ entriesPerBlock d = d .B * entriesPerPage d
 unfoldable pub spareLength : Device → ℕ
 spareLength d = d .M * entriesPerBlock d
 
--- The length of the state in bytes (docs/LAYOUT.md): the device numbers, a count for each block, the groups.
+-- docs/LAYOUT.md: the state's bytes are regions, one behind the other, each of so many cells of so many bytes.
+pub record Region : Type 0 where
+  pub cells : ℕ
+  pub width : ℕ
+
+-- the bytes of the device numbers, of a block's count, of a group
 unfoldable pub headLength : ℕ
 headLength = 16
 
@@ -68,5 +74,19 @@ countLength = 2
 unfoldable pub groupLength : ℕ
 groupLength = 5636
 
+-- "holds M, B, N, g, each block's count of written pages (0 is free) and the groups": in this order
+unfoldable pub regions : Device → List Region
+regions d =
+    record { cells = 1; width = headLength }
+    ∷ record { cells = d .M; width = countLength }
+    ∷ record { cells = groupCount d; width = groupLength }
+    ∷ []
+
+-- the bytes of some regions
+unfoldable pub regionsLength : List Region → ℕ
+regionsLength [] = 0
+regionsLength (r ∷ l) = r .cells * r .width + regionsLength l
+
+-- the length of the state
 unfoldable pub stateLength : Device → ℕ
-stateLength d = headLength + d .M * countLength + groupCount d * groupLength
+stateLength d = regionsLength (regions d)

@@ -9,7 +9,7 @@ use lib.Dec.{leb}
 use lib.ListN.{length, set, take, drop, drop-of-length-le}
 use lib.Seq.{drop-cons, drop-drop, take-at, drop-at, length-take-le}
 use Rattle.model.specs.Lists.{all, store}
-use Rattle.model.specs.Device.{Device, groupCount, groupLength}
+use Rattle.model.specs.Device.{Device, groupCount, groupLength, regions}
 use Rattle.model.specs.State.{State, withGroups, groupAt}
 use Rattle.model.specs.Sound.{soundGroup, soundGroups, soundState}
 use Rattle.model.proofs.Bools.{and-l}
@@ -17,7 +17,8 @@ use Rattle.model.proofs.SoundGroups.{group-sound}
 use Rattle.bytes.proofs.Stores.{lent-back}
 use Rattle.group.specs.Reading.{encodes, readGroup}
 use Rattle.group.proofs.Soundness.{sound-encodes}
-use Rattle.state.specs.Reading.{numbersAt, groupPlace, groupPart, readState}
+use Rattle.state.specs.Regions.{groupRegion, cell}
+use Rattle.state.specs.Reading.{numbersAt, groupPlace, readState}
 use Rattle.state.specs.Outside.{SameOutside}
 use Rattle.state.specs.Shaped.{Shaped}
 use Rattle.state.proofs.Writers.{group-stored}
@@ -46,8 +47,8 @@ pub record Lent (s : List ℕ) (k a e : ℕ) : Type 0 where
   pub group : readGroup (take (e - a) (drop a s)) ≡ groupAt (readState s) k
 
 module _ (d : Device) (s : List ℕ) (h : Shaped d (readState s)) (k a e : ℕ) (lt : k < groupCount d) (start : a ≡ groupPlace d k) (end : e ≡ groupPlace d k + groupLength) where
-  part-is : take (e - a) (drop a s) ≡ groupPart d s k
-  unfolding groupPart
+  part-is : take (e - a) (drop a s) ≡ cell d groupRegion s k
+  unfolding cell regions
   part-is =
       let n : e - a ≡ groupLength = omega (arith, start, end) in
       rw (n, start)

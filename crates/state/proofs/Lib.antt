@@ -2,6 +2,7 @@ pub mod Places
 pub mod Within
 pub mod Head
 pub mod Tables
+pub mod Regions
 pub mod Shaping
 pub mod Writers
 pub mod Scanning
@@ -9,3 +10,4 @@ pub mod Handing
 pub mod Refusing
 pub mod GroupChecks
 pub mod Seeking
+pub mod Bounds

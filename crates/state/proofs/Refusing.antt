@@ -1,91 +1,129 @@
--- The refusals in order, one law for each step, and what a call that refuses has run. Assumes nothing.
+-- The frame of a call: what is known behind its first checks, and what it has run where a check refuses it or none does. Assumes nothing.
 use mathlib.Core.Path.{_≡_, refl, sym, ap, _∙_}
-use mathlib.Core.List.{List, _∷_}
+use mathlib.Core.List.{List, [], _∷_}
 use mathlib.Core.Option.{Option, none, some}
-use mathlib.Core.Bool.{Bool, true, false, _||_}
+use mathlib.Core.Bool.{true, false}
 use Prim.Native.Nat.{ℕ, _≤_, _<_}
 use native.Mathlib.Omega.{arith}
+use lib.Dec.{ltb}
 use lib.ListN.{length}
-use borrow.Author.Tests.{lt-ltb, le-ltb, eq-eqb, ne-eqb}
-use Rattle.model.specs.Lists.{orElse}
-use Rattle.model.specs.Device.{Device, withinLimits, headLength, stateLength}
+use borrow.Author.Tests.{lt-ltb, le-ltb, eq-eqb, ne-eqb, eqb-true, not-false}
+use Rattle.model.specs.Device.{Device, withinLimits, headLength, spareLength, stateLength}
 use Rattle.model.specs.State.{State}
+use Rattle.model.proofs.Bools.{or-none}
+use Rattle.calls.specs.Refusals.{Refusal, badNumbers, badLength, Check, _when_, firstRefusal, numbersMissing, wrongState, wrongSpare, opening, openingWith}
+use Rattle.calls.specs.Outcome.{Answer, refused, accepted, Outcome, outcome, unless}
+use Rattle.calls.specs.History.{Call, lentTo, checksOf, effect, run}
+use Rattle.calls.proofs.Decided.{unless-accepts}
+use Rattle.calls.proofs.Refusing.{stops, goes-on, clears, is-clear, others-decide, right-length, wrong-length, length-is}
 use Rattle.spare.specs.Read.{numbersOf}
 use Rattle.spare.specs.declared.Numbers.{Numbers}
-use Rattle.calls.specs.Refusals.{Refusal, badNumbers, badLength, Check, _when_, firstRefusal, wrongLength, numbersMissing, wrongState}
-use Rattle.calls.specs.Outcome.{refused, Outcome, outcome, unless}
-use Rattle.calls.specs.History.{Call, lend, run}
-use Rattle.calls.proofs.Refusing.{stops, goes-on, none-some}
 use Rattle.state.specs.Reading.{readState}
 use Rattle.state.specs.Shaped.{Shaped}
 use Rattle.state.specs.declared.answers.Refusal as code
 use Rattle.state.specs.declared.opening.Opened.{Opened}
 use Rattle.state.specs.declared.opening.Opened.the-variants as opened
 use Rattle.state.specs.Answers.{refusalOf}
-use Rattle.state.specs.Opening.{stateChecks, Opens}
-use Rattle.state.specs.Ran.{Ran}
-use Rattle.state.proofs.Places.{head-inside}
+use Rattle.state.specs.Opening.{passes, refuses, verdictBy, verdict, verdictOf}
+use Rattle.state.specs.Ran.{Slices, asRead, Ran}
 
--- a call that refuses: the answer, and nothing changed
-pub ran-refused : (c : Call) (checks : List Check) (out : Outcome) (state spare plan erased : List ℕ) (r : Refusal)
-    → run c (readState state) spare ≡ unless checks (lend (readState state) spare plan erased) out → firstRefusal checks ≡ some r
-    → Ran c state spare (refused r) state spare plan erased
-unfolding unless outcome lend
-ran-refused c checks out state spare plan erased r e f =
-    let q : run c (readState state) spare ≡ record { answer = refused r; after = lend (readState state) spare plan erased } = e ∙ rw f in
+-- A call that is refused: the answer, and nothing changed.
+pub ran-refused : (c : Call) (state spare : List ℕ) (left : Slices) (r : Refusal) → firstRefusal (checksOf c (lentTo c (readState state) spare)) ≡ some r
+    → asRead left ≡ lentTo c (readState state) spare → left .state ≡ state → Ran c state spare (refused r) left
+unfolding run unless outcome
+ran-refused c state spare left r f same bytes =
+    let q : run c (readState state) spare ≡ record { answer = refused r; after = lentTo c (readState state) spare } = rw f in
+    record { answered = sym (ap (λ (o : Outcome). o .answer) q); leaves = same ∙ sym (ap (λ (o : Outcome). o .after) q); refusedBytes = λ _. bytes }
+
+-- A call that is not: its effect.
+pub ran-accepted : (c : Call) (state spare : List ℕ) (answer : Answer) (left : Slices) → firstRefusal (checksOf c (lentTo c (readState state) spare)) ≡ none
+    → answer ≡ effect c (lentTo c (readState state) spare) .answer → asRead left ≡ effect c (lentTo c (readState state) spare) .after → (accepted answer ≡ false → left .state ≡ state) → Ran c state spare answer left
+unfolding run
+ran-accepted c state spare answer left f a l r =
+    let q : run c (readState state) spare ≡ effect c (lentTo c (readState state) spare) = unless-accepts _ _ _ f in
     record {
-      answered = sym (ap (λ (o : Outcome). o .answer) q);
-      stateRead = sym (ap (λ (o : Outcome). o .after .state) q);
-      spareLeft = sym (ap (λ (o : Outcome). o .after .spare) q);
-      planLeft = sym (ap (λ (o : Outcome). o .after .plan) q);
-      erasedLeft = sym (ap (λ (o : Outcome). o .after .erased) q);
-      refusedBytes = λ a. refl;
+      answered = a ∙ sym (ap (λ (o : Outcome). o .answer) q);
+      leaves = l ∙ sym (ap (λ (o : Outcome). o .after) q);
+      refusedBytes = r;
     }
 
--- by what the check of the state answered
-pub answered-device : (s : State) (o : Opened) (d : Numbers) → Opens s o → o ≡ opened.Device d → Shaped (numbersOf d) s
-unfolding Opens
-answered-device s o d h e = rw e at h
+-- The code's answer to some checks is right ..
+module _ (cs : List Check) (numbers : Device) where
+  pub says-refused : {r : Refusal} → firstRefusal cs ≡ some r → refuses r ≡ verdict cs numbers
+  unfolding verdictBy
+  says-refused e = rw e
 
-pub answered-refusal : (s : State) (o : Opened) (r : code.Refusal) → Opens s o → o ≡ opened.Refused r → firstRefusal (stateChecks s) ≡ some (refusalOf r)
-unfolding Opens
-answered-refusal s o r h e = rw e at h
+  pub says-passed : {d : Device} → firstRefusal cs ≡ none → d ≡ numbers → passes d ≡ verdict cs numbers
+  unfolding verdictBy
+  says-passed e n = rw (e, n)
 
--- a state that is opened passes its own checks
-module _ (d : Device) (s : State) (h : Shaped d s) where
-  pub numbers-there : numbersMissing s ≡ false
-  unfolding numbersMissing
-  numbers-there =
-      let l : headLength ≤ s .bytes = omega (arith, h .long, head-inside d) in
-      rw (le-ltb (s .bytes) headLength l, h .numbers, h .limits)
+-- .. and this is what it says.
+module _ (cs : List Check) (numbers : Device) (o : Opened) (h : verdictOf o ≡ verdict cs numbers) where
+  pub refused-first : (r : code.Refusal) → o ≡ opened.Refused r → firstRefusal cs ≡ some (refusalOf r)
+  unfolding verdictOf verdictBy
+  refused-first r e = go (firstRefusal cs) (ap verdictOf (sym e) ∙ h)
+    where
+      go : (f : Option Refusal) → refuses (refusalOf r) ≡ verdictBy f numbers → f ≡ some (refusalOf r)
+      go none q = let z : _≡_ {A = ℕ} 0 1 = cc in absurd (omega arith)
+      go (some p) q = cc
 
-  pub state-right : wrongState s ≡ false
-  unfolding wrongState
-  state-right = rw (h .numbers, eq-eqb (s .bytes) (stateLength d) (h .long))
+  pub passed-all : (d : Numbers) → o ≡ opened.Device d → (firstRefusal cs ≡ none) × (numbers ≡ numbersOf d)
+  unfolding verdictOf verdictBy
+  passed-all d e = go (firstRefusal cs) (ap verdictOf (sym e) ∙ h)
+    where
+      go : (f : Option Refusal) → passes (numbersOf d) ≡ verdictBy f numbers → (f ≡ none) × (numbers ≡ numbersOf d)
+      go none q = (refl, cc)
+      go (some p) q = let z : _≡_ {A = ℕ} 0 1 = cc in absurd (omega arith)
 
--- the ways in which one is not
+-- A state that passes the checks on it alone has its shape ..
+pub opened-shape : (s : State) (d : Device) → firstRefusal (opening s) ≡ none → s .device ≡ d → Shaped d s
+unfolding numbersMissing wrongState
+opened-shape s d e n =
+    let p = clears (opening s) e in
+    let l : withinLimits (s .device) ≡ true = not-false _ (or-none (ltb (s .bytes) headLength) _ (p .0) .1) in
+    let b : s .bytes ≡ stateLength (s .device) = eqb-true _ _ (not-false _ (p .1 .0)) in
+    record { numbers = n; limits = rw n at l; long = rw n at b }
+
+-- .. and with its spare area.
+pub opened-with : (s : State) (spare : List ℕ) (d : Device) → firstRefusal (openingWith s spare) ≡ none → s .device ≡ d → Shaped d s × (length spare ≡ spareLength d)
+unfolding wrongSpare
+opened-with s spare d e n =
+    let p = clears (openingWith s spare) e in
+    let l : length spare ≡ spareLength (s .device) = length-is spare (spareLength (s .device)) (p .1 .1 .0) in
+    (opened-shape s d (is-clear (opening s) (p .0, (p .1 .0, tt))) n, rw n at l)
+
+-- A spare area of another length is refused, behind a state that is not.
+pub other-spare : (s : State) (spare : List ℕ) → firstRefusal (opening s) ≡ none → (length spare ≡ spareLength (s .device) → ⊥) → firstRefusal (openingWith s spare) ≡ some badLength
+unfolding wrongSpare
+other-spare s spare e n = others-decide (opening s) _ e ∙ stops (badLength when wrongSpare s spare) [] (wrong-length spare (spareLength (s .device)) n)
+
+-- One of the right length passes with it.
+pub right-spare : (s : State) (spare : List ℕ) → firstRefusal (opening s) ≡ none → length spare ≡ spareLength (s .device) → firstRefusal (openingWith s spare) ≡ none
+unfolding wrongSpare
+right-spare s spare e l = others-decide (opening s) _ e ∙ is-clear (badLength when wrongSpare s spare ∷ []) (right-length spare (spareLength (s .device)) l, tt)
+
+-- The ways in which the state alone is refused ..
 module _ (s : State) where
-  pub too-short : s .bytes < headLength → firstRefusal (stateChecks s) ≡ some badNumbers
-  unfolding stateChecks numbersMissing
+  pub too-short : s .bytes < headLength → firstRefusal (opening s) ≡ some badNumbers
+  unfolding numbersMissing
   too-short h = stops (badNumbers when numbersMissing s) _ (rw (lt-ltb (s .bytes) headLength h))
 
-  pub not-within : headLength ≤ s .bytes → withinLimits (s .device) ≡ false → firstRefusal (stateChecks s) ≡ some badNumbers
-  unfolding stateChecks numbersMissing
+  pub not-within : headLength ≤ s .bytes → withinLimits (s .device) ≡ false → firstRefusal (opening s) ≡ some badNumbers
+  unfolding numbersMissing
   not-within l h = stops (badNumbers when numbersMissing s) _ (rw (le-ltb (s .bytes) headLength l, h))
 
-  pub not-long : headLength ≤ s .bytes → withinLimits (s .device) ≡ true → (s .bytes ≡ stateLength (s .device) → ⊥) → firstRefusal (stateChecks s) ≡ some badLength
-  unfolding stateChecks numbersMissing wrongState
-  not-long l h n =
-      goes-on (badNumbers when numbersMissing s) _ (rw (le-ltb (s .bytes) headLength l, h))
-      ∙ stops (badLength when wrongState s) _ (rw (ne-eqb (s .bytes) (stateLength (s .device)) n))
+  module _ (l : headLength ≤ s .bytes) (h : withinLimits (s .device) ≡ true) where
+    numbers-there : numbersMissing s ≡ false
+    unfolding numbersMissing
+    numbers-there = rw (le-ltb (s .bytes) headLength l, h)
 
-  -- and then a call refuses, whatever its other lengths and checks are
-  pub not-opened : (t : Bool) (cs : List Check) (r : Refusal) → firstRefusal (stateChecks s) ≡ some r
-      → firstRefusal (badNumbers when numbersMissing s ∷ badLength when (wrongState s || t) ∷ cs) ≡ some r
-  unfolding stateChecks firstRefusal orElse
-  not-opened t cs r = go (numbersMissing s) (wrongState s)
-    where
-      go : (a b : Bool) → orElse a badNumbers (orElse b badLength none) ≡ some r → orElse a badNumbers (orElse (b || t) badLength (firstRefusal cs)) ≡ some r
-      go true b e = e
-      go false true e = e
-      go false false e = none-some e
+    pub not-long : (s .bytes ≡ stateLength (s .device) → ⊥) → firstRefusal (opening s) ≡ some badLength
+    unfolding wrongState
+    not-long n =
+        goes-on (badNumbers when numbersMissing s) _ numbers-there
+        ∙ stops (badLength when wrongState s) _ (rw (ne-eqb (s .bytes) (stateLength (s .device)) n))
+
+    -- .. and the one in which it is not
+    pub is-open : s .bytes ≡ stateLength (s .device) → firstRefusal (opening s) ≡ none
+    unfolding wrongState
+    is-open e = is-clear (opening s) (numbers-there, (rw (eq-eqb (s .bytes) (stateLength (s .device)) e), tt))

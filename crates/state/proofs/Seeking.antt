@@ -18,53 +18,59 @@ use Rattle.model.specs.Sound.{soundAs, soundRecord, soundGroup}
 use Rattle.model.proofs.Bools.{and-l, all-head, all-tail}
 use Rattle.model.proofs.SoundRecord.{record-parts}
 use Rattle.model.proofs.SoundGroup.{group-parts}
-use Rattle.calls.specs.Lookup.{Sought, at, nowhere, unnamed, soughtNamed, soughtAt, soughtBy, seek}
+use Rattle.calls.specs.Refusals.{notNamed}
+use Rattle.calls.specs.Outcome.{Answer, found, notWritten, refused}
+use Rattle.calls.specs.Lookup.{Looked, at, nowhere, unnamed, lookedNamed, lookedAt, lookedBy, seek, answerOf}
 use Rattle.calls.proofs.Refusing.{none-some}
 use Rattle.record.specs.Read.{asRecord, bare, existing}
 use Rattle.record.specs.declared.Record as code
+use Rattle.state.specs.declared.answers.Lookup.{Lookup}
+use Rattle.state.specs.declared.answers.Lookup.the-variants as lookup
+use Rattle.state.specs.Answers.{lookupAnswer, asLooked}
 
 -- by the page that is predicted
-data Predicted (d : Device) (spare : List ℕ) (x n : ℕ) : Option ℕ → Sought → Type 0 where
+data Predicted (d : Device) (spare : List ℕ) (x n : ℕ) : Option ℕ → Looked → Type 0 where
   outside : Predicted d spare x n none unnamed
-  inside : (q : ℕ) → q < pages d → Predicted d spare x n (some q) (soughtNamed n q (pageNamed d spare q x))
+  inside : (q : ℕ) → q < pages d → Predicted d spare x n (some q) (lookedNamed n q (pageNamed d spare q x))
 
-predicted : (d : Device) (spare : List ℕ) (x n : ℕ) (z : ℤ) → Predicted d spare x n (existing (pages d) z) (soughtAt d spare x n z)
-unfolding existing soughtAt
+predicted : (d : Device) (spare : List ℕ) (x n : ℕ) (z : ℤ) → Predicted d spare x n (existing (pages d) z) (lookedAt d spare x n z)
+unfolding existing lookedAt
 predicted d spare x n (negsuc m) = outside
 predicted d spare x n (pos p) = go (ltb p (pages d)) refl
   where
-    go : (t : Bool) → ltb p (pages d) ≡ t → Predicted d spare x n (elim t [ true ↦ some p | false ↦ none ]) (elim t [ true ↦ soughtNamed n p (pageNamed d spare p x) | false ↦ unnamed ])
+    go : (t : Bool) → ltb p (pages d) ≡ t → Predicted d spare x n (elim t [ true ↦ some p | false ↦ none ]) (elim t [ true ↦ lookedNamed n p (pageNamed d spare p x) | false ↦ unnamed ])
     go true e = inside p (ltb-true p (pages d) e)
     go false e = outside
 
 module _ (d : Device) (spare : List ℕ) (x n : ℕ) where
-  outside-is : {o : Option ℕ} {s : Sought} → Predicted d spare x n o s → none ≡ o → unnamed ≡ s
+  outside-is : {o : Option ℕ} {s : Looked} → Predicted d spare x n o s → none ≡ o → unnamed ≡ s
   outside-is outside e = refl
   outside-is (inside q l) e = none-some e
 
-  inside-there : {o : Option ℕ} {s : Sought} (q : ℕ) → Predicted d spare x n o s → some q ≡ o → q < pages d
+  inside-there : {o : Option ℕ} {s : Looked} (q : ℕ) → Predicted d spare x n o s → some q ≡ o → q < pages d
   inside-there q outside e = none-some (sym e)
   inside-there q (inside p l) e = let f : q ≡ p = cc in rw f l
 
-  inside-is : {o : Option ℕ} {s : Sought} (q : ℕ) (a : Option ℕ) → Predicted d spare x n o s → some q ≡ o → a ≡ pageNamed d spare q x → soughtNamed n q a ≡ s
+  inside-is : {o : Option ℕ} {s : Looked} (q : ℕ) (a : Option ℕ) → Predicted d spare x n o s → some q ≡ o → a ≡ pageNamed d spare q x → lookedNamed n q a ≡ s
   inside-is q a outside e f = none-some (sym e)
   inside-is q a (inside p l) e f = let g : q ≡ p = cc in rw (f, g)
 
   module _ (z : ℤ) where
-    pub no-page : none ≡ existing (pages d) z → unnamed ≡ soughtAt d spare x n z
-    no-page e = outside-is (predicted d spare x n z) e
+    pub no-page : none ≡ existing (pages d) z → refused notNamed ≡ answerOf (lookedAt d spare x n z)
+    unfolding answerOf
+    no-page e = ap answerOf (outside-is (predicted d spare x n z) e)
 
     -- page q exists, and what its entries name decides
     pub page-exists : (q : ℕ) → some q ≡ existing (pages d) z → q < pages d
     page-exists q e = inside-there q (predicted d spare x n z) e
 
-    pub page-named : (q p : ℕ) → some q ≡ existing (pages d) z → some p ≡ pageNamed d spare q x → at p q n ≡ soughtAt d spare x n z
-    unfolding soughtNamed
-    page-named q p e f = inside-is q (some p) (predicted d spare x n z) e f
+    pub page-named : (q p : ℕ) → some q ≡ existing (pages d) z → some p ≡ pageNamed d spare q x → found p q n ≡ answerOf (lookedAt d spare x n z)
+    unfolding lookedNamed answerOf
+    page-named q p e f = ap answerOf (inside-is q (some p) (predicted d spare x n z) e f)
 
-    pub page-unnamed : (q : ℕ) → some q ≡ existing (pages d) z → none ≡ pageNamed d spare q x → unnamed ≡ soughtAt d spare x n z
-    unfolding soughtNamed
-    page-unnamed q e f = inside-is q none (predicted d spare x n z) e f
+    pub page-unnamed : (q : ℕ) → some q ≡ existing (pages d) z → none ≡ pageNamed d spare q x → refused notNamed ≡ answerOf (lookedAt d spare x n z)
+    unfolding lookedNamed answerOf
+    page-unnamed q e f = ap answerOf (inside-is q none (predicted d spare x n z) e f)
 
 -- a sound record's word
 strided : (r : Record) (d : ℕ) → soundAs (accurate d) r ≡ true → d ≤ 255
@@ -123,15 +129,28 @@ module _ (N k o : ℕ) (g : Group) (h : soundGroup N k g ≡ true) (r : code.Rec
 
 -- so a lookup is what its record gives, or nothing
 module _ (s : State) (d : Device) (spare : List ℕ) (x : ℕ) (numbers : s .device ≡ d) where
-  pub seek-held : (r : Record) (n : ℕ) (t : Sought) → holder (offsetOf x) (listing (groupAt s (groupOf x))) ≡ some r → n ≡ levelsTo (offsetOf x) (groupAt s (groupOf x))
-      → t ≡ soughtAt d spare x n (predict r (offsetOf x)) → t ≡ seek s spare x
-  unfolding seek soughtBy
-  seek-held r n t e f q = q ∙ rw (e, ← f, numbers)
+  pub seek-held : (r : Record) (n : ℕ) (a : Answer) → holder (offsetOf x) (listing (groupAt s (groupOf x))) ≡ some r → n ≡ levelsTo (offsetOf x) (groupAt s (groupOf x))
+      → a ≡ answerOf (lookedAt d spare x n (predict r (offsetOf x))) → a ≡ answerOf (seek s spare x)
+  unfolding seek lookedBy
+  seek-held r n a e f q = q ∙ ap answerOf (rw (e, ← f, numbers))
 
-  pub seek-none : (n : ℕ) → none ≡ Option·map bare (holder (offsetOf x) (listing (groupAt s (groupOf x)))) → n ≡ levelsTo (offsetOf x) (groupAt s (groupOf x)) → nowhere n ≡ seek s spare x
-  unfolding seek soughtBy
-  seek-none n e f = go (holder (offsetOf x) (listing (groupAt s (groupOf x)))) e
+  pub seek-none : (n : ℕ) → none ≡ Option·map bare (holder (offsetOf x) (listing (groupAt s (groupOf x)))) → n ≡ levelsTo (offsetOf x) (groupAt s (groupOf x)) → notWritten n ≡ answerOf (seek s spare x)
+  unfolding seek lookedBy answerOf
+  seek-none n e f = ap answerOf (go (holder (offsetOf x) (listing (groupAt s (groupOf x)))) e)
     where
-      go : (a : Option Record) → none ≡ Option·map bare a → nowhere n ≡ soughtBy (s .device) spare x (levelsTo (offsetOf x) (groupAt s (groupOf x))) a
+      go : (a : Option Record) → none ≡ Option·map bare a → nowhere n ≡ lookedBy (s .device) spare x (levelsTo (offsetOf x) (groupAt s (groupOf x))) a
       go none e = rw f
       go (some m) e = none-some e
+
+-- what the answer says that a lookup came to
+pub looked-is : (l : Lookup) (a : Looked) → lookupAnswer l ≡ answerOf a → asLooked l ≡ a
+unfolding lookupAnswer answerOf asLooked
+looked-is (lookup.Found f) (at p q n) e = cc
+looked-is (lookup.Found f) (nowhere n) e = let z : _≡_ {A = ℕ} 0 1 = cc in absurd (omega arith)
+looked-is (lookup.Found f) unnamed e = let z : _≡_ {A = ℕ} 0 1 = cc in absurd (omega arith)
+looked-is (lookup.NotWritten m) (at p q n) e = let z : _≡_ {A = ℕ} 0 1 = cc in absurd (omega arith)
+looked-is (lookup.NotWritten m) (nowhere n) e = cc
+looked-is (lookup.NotWritten m) unnamed e = let z : _≡_ {A = ℕ} 0 1 = cc in absurd (omega arith)
+looked-is (lookup.Refused r) (at p q n) e = let z : _≡_ {A = ℕ} 0 1 = cc in absurd (omega arith)
+looked-is (lookup.Refused r) (nowhere n) e = let z : _≡_ {A = ℕ} 0 1 = cc in absurd (omega arith)
+looked-is (lookup.Refused r) unnamed e = refl

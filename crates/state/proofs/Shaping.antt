@@ -1,19 +1,21 @@
--- What is read from bytes whose numbers and length are known: the lists by their elements. Assumes nothing.
+-- What is read from bytes whose numbers and length are known: the regions, and their cells. Assumes nothing.
 use mathlib.Core.Path.{_≡_, sym, ap, _∙_}
 use mathlib.Core.List.{List, []}
 use Prim.Native.Nat.{ℕ, _+_, _≤_, _<_}
 use native.Mathlib.Omega.{arith}
 use lib.ListN.{length, getD}
-use Rattle.model.specs.Device.{Device, groupCount, groupLength, stateLength}
+use Rattle.model.specs.Device.{Device, groupCount, countLength, groupLength, regions, stateLength}
 use Rattle.model.specs.Levels.{Group}
 use Rattle.model.specs.State.{State, withCounts, withGroups, groupAt}
 use Rattle.bytes.specs.Little.{le16}
-use Rattle.bytes.proofs.Same.{length-part}
+use Rattle.bytes.proofs.Same.{part-at, length-part}
+use Rattle.bytes.proofs.ReadWrite.{le16-same}
 use Rattle.group.specs.Reading.{readGroup}
-use Rattle.state.specs.Reading.{numbersAt, countAt, countPlace, groupPlace, groupPart, groupRead, listFrom, readState}
+use Rattle.state.specs.Regions.{countRegion, groupRegion, cell, readRegion}
+use Rattle.state.specs.Reading.{numbersAt, readCount, countPlace, groupPlace, readState}
 use Rattle.state.specs.Shaped.{Shaped, countOf}
 use Rattle.state.proofs.Tables.{length-from, getD-from}
-use Rattle.state.proofs.Places.{count-inside, group-inside}
+use Rattle.state.proofs.Regions.{cell-inside}
 
 module _ (d : Device) (s : List ℕ) (h : Shaped d (readState s)) where
   pub long : length s ≡ stateLength d
@@ -24,45 +26,46 @@ module _ (d : Device) (s : List ℕ) (h : Shaped d (readState s)) where
   unfolding readState
   numbers-are = h .numbers
 
-  pub counts-are : readState s .counts ≡ listFrom (countAt s) 0 (d .M)
+  pub counts-are : readState s .counts ≡ readRegion readCount d countRegion s
   unfolding readState
-  counts-are = ap (λ (e : Device). listFrom (countAt s) 0 (e .M)) numbers-are
+  counts-are = ap (λ (e : Device). readRegion readCount e countRegion s) numbers-are
 
-  pub groups-are : readState s .groups ≡ listFrom (groupRead d s) 0 (groupCount d)
+  pub groups-are : readState s .groups ≡ readRegion readGroup d groupRegion s
   unfolding readState
-  groups-are = ap (λ (e : Device). listFrom (groupRead e s) 0 (groupCount e)) numbers-are
+  groups-are = ap (λ (e : Device). readRegion readGroup e groupRegion s) numbers-are
 
   pub length-counts : length (readState s .counts) ≡ d .M
-  length-counts = ap length counts-are ∙ length-from (countAt s) 0 (d .M)
+  unfolding readRegion regions
+  length-counts = ap length counts-are ∙ length-from _ 0 (d .M)
 
   pub length-groups : length (readState s .groups) ≡ groupCount d
-  length-groups = ap length groups-are ∙ length-from (groupRead d s) 0 (groupCount d)
+  unfolding readRegion regions
+  length-groups = ap length groups-are ∙ length-from _ 0 (groupCount d)
 
-  count-is : (k : ℕ) → k < d .M → getD (readState s .counts) k 0 ≡ countAt s k
-  count-is k l = ap (λ (cs : List ℕ). getD cs k 0) counts-are ∙ getD-from (countAt s) (d .M) k 0 l
+  count-is : (k : ℕ) → k < d .M → getD (readState s .counts) k 0 ≡ readCount (cell d countRegion s k)
+  unfolding readRegion regions
+  count-is k l = ap (λ (cs : List ℕ). getD cs k 0) counts-are ∙ getD-from (λ i. readCount (cell d countRegion s i)) (d .M) k 0 l
 
-  pub group-is : (k : ℕ) → k < groupCount d → groupAt (readState s) k ≡ readGroup (groupPart d s k)
-  unfolding groupAt groupRead
-  group-is k l = ap (λ (gs : List Group). getD gs k []) groups-are ∙ getD-from (groupRead d s) (groupCount d) k [] l
+  pub group-is : (k : ℕ) → k < groupCount d → groupAt (readState s) k ≡ readGroup (cell d groupRegion s k)
+  unfolding groupAt readRegion regions
+  group-is k l = ap (λ (gs : List Group). getD gs k []) groups-are ∙ getD-from (λ i. readGroup (cell d groupRegion s i)) (groupCount d) k [] l
 
-  -- a count's bytes lie in the state
-  pub count-in : (k : ℕ) → k < d .M → countPlace k + 2 ≤ length s
-  count-in k l = omega (arith, count-inside d k l, long)
+  -- a count's bytes lie in the state at its place, p
+  pub place-in : (k p : ℕ) → k < d .M → p ≡ countPlace d k → p + 2 ≤ length s
+  unfolding regions countLength
+  place-in k p l e = omega (arith, e, cell-inside d countRegion k l, long)
 
-  -- the same at its place, p
-  pub place-in : (k p : ℕ) → k < d .M → p ≡ countPlace k → p + 2 ≤ length s
-  place-in k p l e = omega (arith, e, count-in k l)
-
-  pub count-read : (k p r : ℕ) → k < d .M → p ≡ countPlace k → r ≡ le16 s p → r ≡ countOf (readState s) k
-  unfolding countAt countOf
-  count-read k p r l e f = f ∙ ap (le16 s) e ∙ sym (count-is k l)
+  pub count-read : (k p r : ℕ) → k < d .M → p ≡ countPlace d k → r ≡ le16 s p → r ≡ countOf (readState s) k
+  unfolding countOf readCount cell regions countLength
+  count-read k p r l e f = f ∙ ap (le16 s) e ∙ sym (count-is k l ∙ le16-same (part-at 2 s (countPlace d k)))
 
   -- and a group's
   pub group-in : (k : ℕ) → k < groupCount d → groupPlace d k + groupLength ≤ length s
-  group-in k l = omega (arith, group-inside d k l, long)
+  unfolding regions
+  group-in k l = omega (arith, cell-inside d groupRegion k l, long)
 
-  pub length-group : (k : ℕ) → k < groupCount d → length (groupPart d s k) ≡ groupLength
-  unfolding groupPart
+  pub length-group : (k : ℕ) → k < groupCount d → length (cell d groupRegion s k) ≡ groupLength
+  unfolding cell regions
   length-group k l = length-part s (groupPlace d k) groupLength (group-in k l)
 
 -- other counts, other groups: the same shape

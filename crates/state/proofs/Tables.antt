@@ -6,7 +6,7 @@ use Prim.Native.Nat.{ℕ, zero, suc, _+_, _≤_, _<_}
 use native.Mathlib.Omega.{arith}
 use native.Mathlib.Nat.{zero-add}
 use lib.ListN.{length, getD, set, replicate}
-use Rattle.state.specs.Reading.{listFrom}
+use Rattle.state.specs.Regions.{listFrom}
 
 module _ {A : Type 0} where
   pub length-from : (f : ℕ → A) (k n : ℕ) → length (listFrom f k n) ≡ n

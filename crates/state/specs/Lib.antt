@@ -1,3 +1,4 @@
+pub mod Regions
 pub mod Reading
 pub mod Formatting
 pub mod Outside

@@ -1,19 +1,26 @@
--- What comes of the refusals that a state alone gives: document 01's 1 and 2. Assumes nothing.
-use mathlib.Core.Path.{_≡_}
-use mathlib.Core.List.{List, [], _∷_}
-use mathlib.Core.Option.{some}
-use Rattle.model.specs.State.{State}
-use Rattle.calls.specs.Refusals.{Check, _when_, badNumbers, badLength, firstRefusal, numbersMissing, wrongState}
+-- What a call's checks come to: the device numbers where none applies, else the first refusal that does. Assumes nothing.
+use mathlib.Core.List.{List}
+use mathlib.Core.Option.{Option, none, some}
+use Rattle.model.specs.Device.{Device}
+use Rattle.calls.specs.Refusals.{Refusal, Check, firstRefusal}
 use Rattle.spare.specs.Read.{numbersOf}
 use Rattle.state.specs.declared.opening.Opened.{Opened}
 use Rattle.state.specs.declared.opening.Opened.the-variants as opened
-use Rattle.state.specs.Shaped.{Shaped}
 use Rattle.state.specs.Answers.{refusalOf}
 
-unfoldable pub stateChecks : State → List Check
-stateChecks s = badNumbers when numbersMissing s ∷ badLength when wrongState s ∷ []
+pub data Verdict : Type 0 where
+  passes : Device → Verdict
+  refuses : Refusal → Verdict
 
--- device numbers are given where none applies, else the first that does
-unfoldable pub Opens : State → Opened → Type 0
-Opens s (opened.Device d) = Shaped (numbersOf d) s
-Opens s (opened.Refused r) = firstRefusal (stateChecks s) ≡ some (refusalOf r)
+unfoldable pub verdictBy : Option Refusal → Device → Verdict
+verdictBy none d = passes d
+verdictBy (some r) d = refuses r
+
+-- of these checks, on a state with these numbers
+abbrev pub verdict : List Check → Device → Verdict
+verdict cs d = verdictBy (firstRefusal cs) d
+
+-- as the code answers it
+unfoldable pub verdictOf : Opened → Verdict
+verdictOf (opened.Device d) = passes (numbersOf d)
+verdictOf (opened.Refused r) = refuses (refusalOf r)

@@ -4,21 +4,39 @@
 -- "Every call ends, for any state, spare area and numbers it is lent": each call's function has this relation as its contract and
 -- requires nothing, and a proved function returns. Beside it compaction promises the bytes outside its group (Outside.antt).
 use mathlib.Core.Path.{_≡_}
-use mathlib.Core.List.{List}
+use mathlib.Core.List.{List, []}
 use mathlib.Core.Bool.{false}
 use Prim.Native.Nat.{ℕ}
-use Rattle.calls.specs.Outcome.{Answer, accepted}
+use Rattle.calls.specs.Outcome.{Lent, Answer, accepted}
 use Rattle.calls.specs.History.{Call, run}
 use Rattle.state.specs.Reading.{readState}
 
--- Call c, lent these bytes and this spare area (its lists stand in c), gave this answer and left these.
-pub record Ran (c : Call) (state spare : List ℕ) (answer : Answer) (state′ spare′ plan′ erased′ : List ℕ) : Type 0 where
+-- The lent slices as they are: the state's bytes, the spare entries, the plan, the list of erased blocks, a listing's bytes. One that
+-- a call is not lent is empty.
+pub record Slices : Type 0 where
+  pub state : List ℕ
+  pub spare : List ℕ
+  pub plan : List ℕ
+  pub erased : List ℕ
+  pub out : List ℕ
+
+-- as the definitions see them
+abbrev pub asRead : Slices → Lent
+asRead l = record { state = readState (l .state); spare = l .spare; plan = l .plan; erased = l .erased; out = l .out }
+
+-- of a call that is lent state and spare area alone
+abbrev pub deviceSlices : List ℕ → List ℕ → Slices
+deviceSlices state spare = record { state = state; spare = spare; plan = []; erased = []; out = [] }
+
+-- and of a listingSlices
+abbrev pub listingSlices : List ℕ → List ℕ → List ℕ → Slices
+listingSlices state spare out = record { state = state; spare = spare; plan = []; erased = []; out = out }
+
+-- Call c, lent these bytes and this spare area (its lists stand in c), gave this answer and left these slices.
+pub record Ran (c : Call) (state spare : List ℕ) (answer : Answer) (left : Slices) : Type 0 where
   -- "and an accepted call gives the answer and leaves the buffers that document 01 states for it. A refused call gives the first
   -- refusal in that document's order that applies"
   pub answered : answer ≡ run c (readState state) spare .answer
-  pub stateRead : readState state′ ≡ run c (readState state) spare .after .state
-  pub spareLeft : spare′ ≡ run c (readState state) spare .after .spare
-  pub planLeft : plan′ ≡ run c (readState state) spare .after .plan
-  pub erasedLeft : erased′ ≡ run c (readState state) spare .after .erased
+  pub leaves : asRead left ≡ run c (readState state) spare .after
   -- "and changes no byte of any buffer."
-  pub refusedBytes : accepted answer ≡ false → state′ ≡ state
+  pub refusedBytes : accepted answer ≡ false → left .state ≡ state

@@ -1,5 +1,6 @@
 // What the calls answer.
 ghost use mathlib.Core.Path.{_≡_};
+ghost use Prim.Native.Nat.{_<_};
 ghost use Rattle.calls.specs.Refusals.{refusalNumber};
 ghost use Rattle.state.specs.Answers.{refusalOf};
 
@@ -25,19 +26,18 @@ pub enum Flushed {
     Refused(Refusal),
 }
 
-// The page, the predicted page and how many levels were looked at; or the number of levels.
-pub enum Lookup {
-    Found(u32, u32, u32),
-    NotWritten(u32),
-    Refused(Refusal),
+// Where a logical page is found: the page, the predicted page and how many levels were looked at.
+pub struct Found {
+    pub page: u32,
+    pub predicted: u32,
+    pub levels: u32,
 }
 
-// What a lookup in a sound group finds: the page, the predicted page and how many levels were looked at; no record, and the
-// number of levels; a record, but no page that names the logical page.
-pub enum Sought {
-    At(u32, u32, u32),
-    Nowhere(u32),
-    Unnamed,
+// Not written: with the number of levels.
+pub enum Lookup {
+    Found(Found),
+    NotWritten(u32),
+    Refused(Refusal),
 }
 
 // First page, count and number erased.
@@ -64,9 +64,9 @@ pub enum Listed {
     Refused(Refusal),
 }
 
-// Document 01's number of a refusal.
+// Document 01's number of a refusal, which four bits hold.
 pub fn number(r: Refusal) -> u32
-    ensures { λ n. ⌜ n ≡ refusalNumber (refusalOf r) ⌝ }
+    ensures { λ n. ⌜ (n ≡ refusalNumber (refusalOf r)) × (n < 16) ⌝ }
 {
     match r {
         Refusal::BadNumbers => 1,

@@ -4,7 +4,7 @@ ghost use mathlib.Core.Path.{_≡_};
 ghost use mathlib.Core.Bool.{true};
 ghost use Prim.Native.Nat.{_+_, _≤_};
 ghost use lib.ListN.{length};
-ghost use Rattle.model.specs.Device.{withinLimits, groupCount, headLength, groupLength, stateLength};
+ghost use Rattle.model.specs.Device.{Device, withinLimits, groupCount, headLength, groupLength, stateLength};
 ghost use Rattle.spare.specs.Read.{numbersOf};
 ghost use Rattle.state.specs.Reading.{numbersAt, countPlace, groupPlace};
 
@@ -63,7 +63,7 @@ pub fn group_count(d: Numbers) -> u32
 // The place of block k's count.
 pub fn count_place(k: u32) -> usize
     requires { ⌜ k ≤ 4096 ⌝ }
-    ensures { λ r. ⌜ r ≡ countPlace k ⌝ }
+    ensures { λ r. ⌜ ((d : Device) → r ≡ countPlace d k) ⌝ }
 {
     HEAD + (k as usize) * COUNT
 }

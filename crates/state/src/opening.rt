@@ -1,12 +1,14 @@
-// The refusals that every call on a formatted state starts with, as far as the state alone gives them.
+// The checks that every call on a formatted state begins with: on the state alone, or with its spare area.
 use crate::answers::Refusal;
 use crate::numbers::HEAD;
 use crate::numbers::numbers;
 use crate::numbers::state_len;
 use crate::numbers::within_limits;
 use spare::Numbers;
+ghost use mathlib.Core.Path.{_≡_};
+ghost use Rattle.calls.specs.Refusals.{opening, openingWith};
 ghost use Rattle.state.specs.Reading.{readState};
-ghost use Rattle.state.specs.Opening.{Opens};
+ghost use Rattle.state.specs.Opening.{verdict, verdictOf};
 
 // The device numbers, or the refusal.
 pub enum Opened {
@@ -15,8 +17,8 @@ pub enum Opened {
 }
 
 // The device numbers of a state that has them, within their limits, and the length that they give.
-pub fn check_state(state: &[u8]) -> Opened
-    ensures { λ r. ⌜ Opens (readState (now (state .entry))) r ⌝ }
+pub fn open_state(state: &[u8]) -> Opened
+    ensures { λ r. ⌜ verdictOf r ≡ verdict (opening (readState (now (state .entry)))) (readState (now (state .entry)) .device) ⌝ }
 {
     if state.len() < HEAD {
         return Opened::Refused(Refusal::BadNumbers);
@@ -26,6 +28,21 @@ pub fn check_state(state: &[u8]) -> Opened
         return Opened::Refused(Refusal::BadNumbers);
     }
     if state.len() != state_len(d) {
+        return Opened::Refused(Refusal::BadLength);
+    }
+    Opened::Device(d)
+}
+
+// So, and the spare area has the length that they give.
+pub fn open_with_spare(state: &[u8], spare: &[u32]) -> Opened
+    ensures { λ r. ⌜ verdictOf r ≡ verdict (openingWith (readState (now (state .entry))) (now (spare .entry))) (readState (now (state .entry)) .device) ⌝ }
+{
+    let opened = open_state(state);
+    let d = match opened {
+        Opened::Device(d) => d,
+        Opened::Refused(r) => return Opened::Refused(r),
+    };
+    if spare.len() != spare::spare_len(d) {
         return Opened::Refused(Refusal::BadLength);
     }
     Opened::Device(d)

@@ -1,5 +1,7 @@
 // A lookup in a sound group: from a logical page to the page that holds it, by the records and the predicted page's entries.
-use crate::answers::Sought;
+use crate::answers::Found;
+use crate::answers::Lookup;
+use crate::answers::Refusal;
 use crate::groups::find;
 use group::Hit;
 use record::Page;
@@ -15,41 +17,45 @@ ghost use Rattle.model.specs.Device.{withinLimits, groupOf, offsetOf, spareLeng
 ghost use Rattle.model.specs.Record.{predict};
 ghost use Rattle.model.specs.State.{groupAt};
 ghost use Rattle.model.specs.Sound.{soundGroup};
-ghost use Rattle.calls.specs.Lookup.{soughtAt, seek};
+ghost use Rattle.calls.specs.Lookup.{lookedAt, seek, answerOf};
 ghost use Rattle.spare.specs.Read.{numbersOf};
 ghost use Rattle.record.specs.Read.{asRecord};
 ghost use Rattle.state.specs.Reading.{readState};
 ghost use Rattle.state.specs.Shaped.{Shaped};
-ghost use Rattle.state.specs.Answers.{soughtOf};
+ghost use Rattle.state.specs.Answers.{lookupAnswer};
 
 // What comes of a lookup whose record is r, after n levels: from the predicted page's entries alone.
-fn named(spare: &[u32], d: Numbers, page: u32, r: Record, n: u32) -> Sought
+fn named(spare: &[u32], d: Numbers, page: u32, r: Record, n: u32) -> Lookup
     requires { ⌜ (withinLimits (numbersOf d) ≡ true) × (length (now spare) ≡ spareLength (numbersOf d)) × (r .word ≤ 513) ⌝ }
-    ensures { λ t. ⌜ ((L : List ℕ) → soughtOf t ≡ soughtAt (numbersOf d) (now (spare .entry)) page n (predict (asRecord r L) (offsetOf page))) ⌝ }
+    ensures { λ t. ⌜ ((L : List ℕ) → lookupAnswer t ≡ answerOf (lookedAt (numbersOf d) (now (spare .entry)) page n (predict (asRecord r L) (offsetOf page)))) ⌝ }
 {
     let o = page % 256;
     let pages = d.m * d.b;
     let predicted = r.page(o, pages);
     let Page::At(q) = predicted else {
-        return Sought::Unnamed;
+        return Lookup::Refused(Refusal::NotNamed);
     };
     let Named::Page(p) = spare::page_named(spare, d, q, page) else {
-        return Sought::Unnamed;
+        return Lookup::Refused(Refusal::NotNamed);
     };
-    Sought::At(p, q, n)
+    Lookup::Found(Found {
+        page: p,
+        predicted: q,
+        levels: n,
+    })
 }
 
 // The lookup itself, where its group is sound.
-pub fn seek(state: &[u8], spare: &[u32], d: Numbers, page: u32) -> Sought
+pub fn seek(state: &[u8], spare: &[u32], d: Numbers, page: u32) -> Lookup
     requires { ⌜ Shaped (numbersOf d) (readState (now state)) × (length (now spare) ≡ spareLength (numbersOf d)) × (page < d .n)
         × (soundGroup (d .n) (groupOf page) (groupAt (readState (now state)) (groupOf page)) ≡ true) ⌝ }
-    ensures { λ r. ⌜ soughtOf r ≡ seek (readState (now (state .entry))) (now (spare .entry)) page ⌝ }
+    ensures { λ r. ⌜ lookupAnswer r ≡ answerOf (seek (readState (now (state .entry))) (now (spare .entry)) page) ⌝ }
 {
     let k = page / 256;
     let o = page % 256;
     let hit = find(state, d, k, o);
     match hit {
         Hit::At(r, n) => named(spare, d, page, r, n),
-        Hit::Nowhere(n) => Sought::Nowhere(n),
+        Hit::Nowhere(n) => Lookup::NotWritten(n),
     }
 }

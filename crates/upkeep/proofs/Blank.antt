@@ -9,16 +9,19 @@ use lib.ListN.{length, getD, replicate, length-replicate, getD-replicate, List·
 use borrow.Author.Tests.{ltb-true, ltb-false}
 use Rattle.calls.specs.Format.{blankState}
 use Rattle.model.specs.Lists.{store}
-use Rattle.model.specs.Device.{Device, withinLimits, groupCount, headLength, groupLength, stateLength}
+use Rattle.model.specs.Device.{Device, withinLimits, groupCount, headLength, countLength, groupLength, regions, regionsLength, stateLength}
 use Rattle.model.proofs.Lists.{length-store, getD-store}
 use Rattle.bytes.specs.Little.{le16}
 use Rattle.bytes.proofs.Same.{stored-below, part-in}
 use Rattle.bytes.proofs.ReadWrite.{le16-same}
 use Rattle.group.specs.Layout.{usedOf, flagOf}
-use Rattle.state.specs.Reading.{numbersAt, countAt, countPlace, groupPlace, groupPart, groupRead, readState}
+use Rattle.group.specs.Reading.{readGroup}
+use Rattle.state.specs.Regions.{countRegion, groupRegion, regionAt, placeAt, cellPlace, cell, readRegion}
+use Rattle.state.specs.Reading.{numbersAt, readCount, readState}
 use Rattle.state.specs.Formatting.{headOf}
 use Rattle.state.proofs.Tables.{from-all}
-use Rattle.state.proofs.Places.{count-low, group-low, head-inside}
+use Rattle.state.proofs.Places.{head-inside}
+use Rattle.state.proofs.Regions.{head-before}
 use Rattle.state.proofs.Head.{numbers-same, head-stored}
 use Rattle.state.proofs.Writers.{read-as}
 use Rattle.group.proofs.Holding.{none-read}
@@ -50,28 +53,29 @@ module _ (s : List ℕ) where
   unfolding le16
   zero-pair p h = rw (zero-at p h, zero-at (p + 1) (omega arith))
 
-  count-zero : (k : ℕ) → countAt cleared k ≡ 0
-  unfolding countAt
-  count-zero k = zero-pair (countPlace k) (count-low k)
+  -- two bytes of a cell behind the head
+  cell-pair : (d : Device) (r k q : ℕ) → 1 ≤ r → q + 2 ≤ regionAt (regions d) r .width → le16 (cell d r cleared k) q ≡ 0
+  unfolding cell placeAt regions regionsLength headLength
+  cell-pair d r k q one h =
+      le16-same (part-in 2 cleared (cellPlace d r k) (regionAt (regions d) r .width) q h)
+      ∙ zero-pair (cellPlace d r k + q) (omega (arith, head-before d r k one))
 
-  part-pair : (d : Device) (k q : ℕ) → q + 2 ≤ groupLength → le16 (groupPart d cleared k) q ≡ 0
-  unfolding groupPart
-  part-pair d k q h =
-      le16-same (part-in 2 cleared (groupPlace d k) groupLength q h)
-      ∙ zero-pair (groupPlace d k + q) (omega (arith, group-low d k, count-low (d .M)))
+  count-zero : (d : Device) (k : ℕ) → readCount (cell d countRegion cleared k) ≡ 0
+  unfolding readCount regions countLength
+  count-zero d k = cell-pair d countRegion k 0 (omega arith) (omega arith)
 
-  group-empty : (d : Device) (k : ℕ) → groupRead d cleared k ≡ []
-  unfolding groupRead usedOf flagOf groupLength
-  group-empty d k = none-read (groupPart d cleared k) (part-pair d k 0 (omega arith)) (part-pair d k 2 (omega arith))
+  group-empty : (d : Device) (k : ℕ) → readGroup (cell d groupRegion cleared k) ≡ []
+  unfolding usedOf flagOf regions groupLength
+  group-empty d k = none-read (cell d groupRegion cleared k) (cell-pair d groupRegion k 0 (omega arith) (omega arith)) (cell-pair d groupRegion k 2 (omega arith) (omega arith))
 
 -- the head written, then zeros stored
 pub blank-read : (d : Device) (s t u : List ℕ) → withinLimits d ≡ true → length s ≡ stateLength d → t ≡ store s 0 (headOf d)
     → u ≡ store t headLength (replicate (length t - headLength) 0) → readState u ≡ blankState d
-unfolding blankState headLength
+unfolding blankState headLength readRegion regions
 blank-read d s t u h l e f =
     let long : length t ≡ stateLength d = rw e (length-store s 0 (headOf d) ∙ l) in
     let numbers : numbersAt t ≡ d = rw e (head-stored d s h (omega (arith, head-inside d))) in
     rw f (read-as d (cleared t) (stateLength d) (replicate (d .M) 0) (replicate (groupCount d) []) (length-store t 16 (zeros t) ∙ long)
     (numbers-same (stored-below 16 t 16 (zeros t) 0 (omega arith)) ∙ numbers)
-    (from-all (countAt (cleared t)) 0 0 (d .M) (λ i a b. count-zero t i))
-    (from-all (groupRead d (cleared t)) [] 0 (groupCount d) (λ i a b. group-empty t d i)))
+    (from-all (λ i. readCount (cell d countRegion (cleared t) i)) 0 0 (d .M) (λ i a b. count-zero t d i))
+    (from-all (λ i. readGroup (cell d groupRegion (cleared t) i)) [] 0 (groupCount d) (λ i a b. group-empty t d i)))

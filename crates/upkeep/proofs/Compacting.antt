@@ -1,19 +1,19 @@
 -- The ways in which a compaction ends: its refusals in order, and the group compacted. Assumes nothing.
 use mathlib.Core.Path.{_≡_, refl, sym, ap, _∙_}
-use mathlib.Core.List.{List, [], _++_}
-use mathlib.Core.Option.{some}
-use mathlib.Core.Bool.{true≢false, true, false, or-false}
+use mathlib.Core.List.{List, _++_}
+use mathlib.Core.Option.{none, some}
+use mathlib.Core.Bool.{true≢false, true, false}
 use Prim.Native.Nat.{ℕ, _+_, _-_, _≤_, _<_}
 use lib.ListN.{length, set, take, drop}
 use Rattle.model.specs.Device.{Device, groupCount, groupLength}
 use Rattle.model.specs.Levels.{Group, recordCount, compact}
 use Rattle.model.specs.State.{State, withGroups, groupAt}
 use Rattle.model.specs.Sound.{soundGroup}
-use Rattle.calls.specs.Refusals.{Refusal, notSound, outOfRange, firstRefusal, wrongState}
-use Rattle.calls.specs.Outcome.{accepted, number, compacted, refused, Outcome}
-use Rattle.calls.specs.Compaction.{compactChecks, compactGroup, compactDone, compaction}
-use Rattle.calls.specs.History.{compactCall, lend, run}
-use Rattle.calls.proofs.Decided.{unless-accepts}
+use Rattle.calls.specs.Refusals.{Refusal, notSound, outOfRange, firstRefusal, opening}
+use Rattle.calls.specs.Outcome.{accepted, compacted, refused}
+use Rattle.calls.specs.Compaction.{groupChecks, compactChecks, compactGroup, compactDone}
+use Rattle.calls.specs.History.{compactCall, lend, lentTo, checksOf, effect}
+use Rattle.calls.proofs.Refusing.{front-refuses, others-decide}
 use Rattle.group.specs.Reading.{readGroup}
 use Rattle.group.specs.Held.{Held}
 use Rattle.group.proofs.Holding.{sound-held}
@@ -22,10 +22,9 @@ use Rattle.compaction.proofs.Read.{read-tidy}
 use Rattle.state.specs.Reading.{groupPlace, readState}
 use Rattle.state.specs.Outside.{SameOutside}
 use Rattle.state.specs.Shaped.{Shaped}
-use Rattle.state.specs.Opening.{stateChecks}
-use Rattle.state.specs.Ran.{Ran}
-use Rattle.state.proofs.Refusing.{ran-refused, state-right}
-use Rattle.state.proofs.GroupChecks.{closed-state, no-group, unsound-group, sound-group}
+use Rattle.state.specs.Ran.{deviceSlices, Ran}
+use Rattle.state.proofs.Refusing.{ran-refused, ran-accepted}
+use Rattle.state.proofs.GroupChecks.{no-group, unsound-group, sound-group}
 use Rattle.state.proofs.Handing.{lent, part-replaced}
 
 -- the part of a sound group can be compacted, and then the state is read with that group compacted
@@ -67,34 +66,23 @@ module _ (state : List ℕ) (k : ℕ) (spare : List ℕ) where
   abbrev s : State
   s = readState state
 
-  refuses : (r : Refusal) → firstRefusal (compactChecks k (lend s spare [] [])) ≡ some r → Ran (compactCall k) state spare (refused r) state spare [] []
-  unfolding run compaction
-  refuses r e = ran-refused (compactCall k) _ _ state spare [] [] r refl e
+  refuses : (r : Refusal) → firstRefusal (opening s ++ groupChecks k s) ≡ some r → Ran (compactCall k) state spare (refused r) (deviceSlices state spare)
+  unfolding checksOf lentTo lend compactChecks
+  refuses r e = ran-refused (compactCall k) state spare _ r e refl refl
 
-  pub compact-closed : (r : Refusal) → firstRefusal (stateChecks s) ≡ some r → Ran (compactCall k) state spare (refused r) state spare [] []
-  unfolding compactChecks lend
-  compact-closed r e = refuses r (closed-state s k (wrongState s) false (or-false (wrongState s)) r e)
+  pub compact-closed : (r : Refusal) → firstRefusal (opening s) ≡ some r → Ran (compactCall k) state spare (refused r) (deviceSlices state spare)
+  compact-closed r e = refuses r (front-refuses (opening s) _ e)
 
-  module _ (d : Device) (h : Shaped d s) where
-    pub compact-range : groupCount d ≤ k → Ran (compactCall k) state spare (refused outOfRange) state spare [] []
-    unfolding compactChecks lend
-    compact-range l = refuses outOfRange (no-group s k (wrongState s) d h (state-right d s h) l)
+  module _ (d : Device) (passed : (firstRefusal (opening s) ≡ none) × (s .device ≡ d)) where
+    pub compact-range : groupCount d ≤ k → Ran (compactCall k) state spare (refused outOfRange) (deviceSlices state spare)
+    compact-range l = refuses outOfRange (others-decide (opening s) _ (passed .0) ∙ no-group s k d (passed .1) l)
 
     module _ (inside : k < groupCount d) where
-      pub compact-unsound : soundGroup (d .N) k (groupAt s k) ≡ false → Ran (compactCall k) state spare (refused notSound) state spare [] []
-      unfolding compactChecks lend
-      compact-unsound f = refuses notSound (unsound-group s k (wrongState s) d h (state-right d s h) inside f)
+      pub compact-unsound : soundGroup (d .N) k (groupAt s k) ≡ false → Ran (compactCall k) state spare (refused notSound) (deviceSlices state spare)
+      compact-unsound f = refuses notSound (others-decide (opening s) _ (passed .0) ∙ unsound-group s k d (passed .1) inside f)
 
       pub compact-done : soundGroup (d .N) k (groupAt s k) ≡ true → (state′ : List ℕ) (n : ℕ) → readState state′ ≡ compactGroup k s → n ≡ recordCount (compact (groupAt s k))
-          → Ran (compactCall k) state spare (compacted n) state′ spare [] []
-      unfolding run compaction compactChecks compactDone lend accepted number
+          → Ran (compactCall k) state spare (compacted n) (deviceSlices state′ spare)
+      unfolding checksOf lentTo lend effect compactChecks compactDone accepted
       compact-done f state′ n q e =
-          let o : run (compactCall k) s spare ≡ compactDone k (lend s spare [] []) = unless-accepts _ _ _ (sound-group s k (wrongState s) d h (state-right d s h) inside f) in
-          record {
-            answered = ap compacted e ∙ sym (ap (λ (p : Outcome). p .answer) o);
-            stateRead = q ∙ sym (ap (λ (p : Outcome). p .after .state) o);
-            spareLeft = sym (ap (λ (p : Outcome). p .after .spare) o);
-            planLeft = sym (ap (λ (p : Outcome). p .after .plan) o);
-            erasedLeft = sym (ap (λ (p : Outcome). p .after .erased) o);
-            refusedBytes = λ z. absurd (true≢false z);
-          }
+          ran-accepted (compactCall k) state spare (compacted n) _ (others-decide (opening s) _ (passed .0) ∙ sound-group s k d (passed .1) inside f) (ap compacted e) (rw q) (λ z. absurd (true≢false z))

@@ -7,9 +7,9 @@ use state::numbers::group_count;
 use state::numbers::group_end;
 use state::numbers::group_place;
 use state::opening::Opened;
-use state::opening::check_state;
+use state::opening::open_state;
 ghost use mathlib.Core.Path.{_≡_};
-ghost use mathlib.Core.List.{List, []};
+ghost use mathlib.Core.List.{List};
 ghost use mathlib.Core.Bool.{true};
 ghost use Prim.Native.Nat.{ℕ, _<_};
 ghost use Rattle.model.specs.Device.{groupCount};
@@ -23,7 +23,7 @@ ghost use Rattle.state.specs.Reading.{readState, numbersAt};
 ghost use Rattle.state.specs.Outside.{SameOutside};
 ghost use Rattle.state.specs.Shaped.{Shaped};
 ghost use Rattle.state.specs.Answers.{compactAnswer};
-ghost use Rattle.state.specs.Ran.{Ran};
+ghost use Rattle.state.specs.Ran.{deviceSlices, Ran};
 
 // Compacts group k, which is sound; how many records are left.
 fn compact_group(state: &mut [u8], d: Numbers, k: u32) -> u32
@@ -40,10 +40,10 @@ fn compact_group(state: &mut [u8], d: Numbers, k: u32) -> u32
 
 // Document 01's compaction. It is lent no spare area: whatever that is, it stays. So does each byte outside the group's part.
 pub fn compact(state: &mut [u8], group: u32) -> Compacted
-    ensures ran { λ r. ⌜ ((spare : List ℕ) → Ran (compactCall group) (now (state .entry)) spare (compactAnswer r) (now (state .exit)) spare [] []) ⌝ }
+    ensures ran { λ r. ⌜ ((spare : List ℕ) → Ran (compactCall group) (now (state .entry)) spare (compactAnswer r) (deviceSlices (now (state .exit)) spare)) ⌝ }
     ensures outside { λ _. ⌜ SameOutside (numbersAt (now (state .entry))) group (now (state .entry)) (now (state .exit)) ⌝ }
 {
-    let opened = check_state(state);
+    let opened = open_state(state);
     let d = match opened {
         Opened::Device(d) => d,
         Opened::Refused(r) => return Compacted::Refused(r),

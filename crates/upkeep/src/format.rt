@@ -6,7 +6,6 @@ use state::numbers::HEAD;
 use state::numbers::state_len;
 use state::numbers::within_limits;
 ghost use mathlib.Core.Path.{_≡_};
-ghost use mathlib.Core.List.{[]};
 ghost use mathlib.Core.Bool.{true};
 ghost use Prim.Native.Nat.{_-_, _≤_};
 ghost use lib.ListN.{length, replicate};
@@ -19,7 +18,7 @@ ghost use Rattle.spare.specs.Read.{numbersOf};
 ghost use Rattle.state.specs.Reading.{readState};
 ghost use Rattle.state.specs.Formatting.{headOf};
 ghost use Rattle.state.specs.Answers.{formatAnswer};
-ghost use Rattle.state.specs.Ran.{Ran};
+ghost use Rattle.state.specs.Ran.{deviceSlices, Ran};
 
 // The device numbers are stored at the state's start.
 fn write_numbers(state: &mut [u8], d: Numbers)
@@ -70,7 +69,7 @@ fn erase_all(spare: &mut [u32], d: Numbers)
 // Document 01's format.
 pub fn format(m: u32, b: u32, n: u32, g: u32, state: &mut [u8], spare: &mut [u32]) -> Formatted
     ensures { λ r. ⌜ Ran (formatCall (record { M = m; B = b; N = n; g = g }))
-        (now (state .entry)) (now (spare .entry)) (formatAnswer r) (now (state .exit)) (now (spare .exit)) [] [] ⌝ }
+        (now (state .entry)) (now (spare .entry)) (formatAnswer r) (deviceSlices (now (state .exit)) (now (spare .exit))) ⌝ }
 {
     let d = Numbers { m, b, n, g };
     if !within_limits(d) {

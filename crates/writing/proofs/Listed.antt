@@ -11,7 +11,7 @@ use borrow.Author.Tests.{eq-eqb, ne-eqb}
 use Rattle.model.specs.Record.{Record}
 use Rattle.model.specs.Learning.{recordsFor}
 use Rattle.record.specs.declared.Record as struct
-use Rattle.state.specs.Reading.{listFrom}
+use Rattle.state.specs.Regions.{listFrom}
 use Rattle.writing.specs.Handed.{learnedAt, runGroup, runAt, runsFrom, runsIn}
 
 module _ (w taken : List ℕ) (k : ℕ) where

@@ -19,7 +19,8 @@ use Rattle.model.proofs.SoundGroup.{insert-sound}
 use Rattle.model.proofs.SoundGroups.{set-sound}
 use Rattle.model.proofs.TakeIn.{takeInAll-length, takeInAll-at}
 use Rattle.record.specs.declared.Record as struct
-use Rattle.state.specs.Reading.{listFrom, readState}
+use Rattle.state.specs.Regions.{listFrom}
+use Rattle.state.specs.Reading.{readState}
 use Rattle.state.specs.Shaped.{Shaped}
 use Rattle.state.proofs.Shaping.{shaped-groups}
 use Rattle.writing.specs.declared.Place.{Place}

@@ -14,7 +14,7 @@ use Rattle.model.specs.Record.{Record, Kind, single, accurate, approximate, kin
 use Rattle.model.specs.Learning.{Run}
 use Rattle.record.specs.declared.Record as struct
 use Rattle.record.specs.Read.{asRecord}
-use Rattle.state.specs.Reading.{listFrom}
+use Rattle.state.specs.Regions.{listFrom}
 
 -- the place in the batch of run i's first page
 unfoldable pub place : List ℕ → ℕ → ℕ

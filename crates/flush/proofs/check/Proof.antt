@@ -1,98 +1,123 @@
--- Each refusal, in order, by the law of its return. Assumes nothing.
-use mathlib.Core.Path.{_≡_, sym, _∙_}
-use mathlib.Core.Bool.{true, false, _||_}
+-- The state is opened or not; then each refusal, in order, by what its test was of. Assumes nothing.
+use mathlib.Core.Path.{_≡_, refl, sym, ap, _∙_}
+use mathlib.Core.List.{[]}
+use mathlib.Core.Option.{none}
+use mathlib.Core.Bool.{not}
+use Prim.Native.Nat.{ℕ}
 use native.Mathlib.Omega.{arith}
 use borrow.Author.Needs.{needs}
-use borrow.Author.Tests.{not-true, not-false}
-use lib.Dec.{ltb}
+use borrow.Author.Tests.{not-true, not-false, lt-ltb, le-ltb}
 use lib.ListN.{length}
-use Rattle.model.specs.Lists.{all}
-use Rattle.model.specs.Device.{Device, spareLength}
-use Rattle.model.specs.Sound.{isEmpty, soundState}
+use Rattle.model.specs.Device.{Device}
+use Rattle.model.specs.State.{State, freeBlocks}
+use Rattle.calls.specs.Refusals.{firstRefusal, openingWith}
+use Rattle.calls.specs.Flush.{flushChecks}
 use Rattle.calls.specs.History.{lend}
+use Rattle.calls.proofs.Refusing.{ClearTo, front-refuses, refuses-at, is-clear, right-length, wrong-length}
 use Rattle.spare.specs.Read.{numbersOf}
 use Rattle.state.specs.Reading.{readState}
 use Rattle.state.specs.Shaped.{Shaped}
 use Rattle.state.specs.Answers.{refusalOf}
-use Rattle.state.proofs.Refusing.{answered-device, answered-refusal}
-use Rattle.flush.specs.Clearing.{Clears}
-use Rattle.flush.proofs.Checking.{not-open, spare-wrong, plan-wrong, unsound, size-wrong, page-outside, too-few-free, none-applies}
+use Rattle.state.specs.Opening.{verdictOf}
+use Rattle.state.proofs.Refusing.{says-refused, says-passed, refused-first, passed-all, opened-with}
+use Rattle.flush.proofs.Checking.{rest, to-rest}
 use Rattle.flush.proofs.check.Statement.{statement}
 use Rattle.flush.proofs.check.Tie as tie
 
--- the device whose numbers the state has
+-- where the state is opened: what is lent, and the device whose numbers it has
+abbrev start : tie.After-known-told → tie.Start
+start c = c .before .before .before .before .before .before .before .before
+
+abbrev s : tie.After-known-told → State
+s c = readState (start c .args .state .now)
+
+abbrev free : tie.After-known-told → ℕ
+free c = length (freeBlocks 0 (s c .counts))
+
 abbrev held : tie.After-known-told → Device
 held c = numbersOf (c .before .opened .given .0 .0)
 
--- what the tests that were passed give, one after the other
-shape : (c : tie.After-known-told) → Shaped (held c) (readState (c .before .before .before .before .before .before .before .before .args .state .now))
-shape c = answered-device _ _ _ (c .before .before .before .check-state .ensures) (c .before .opened .given .1)
+-- what that says: its shape, and which checks are left
+passed : (c : tie.After-known-told) → (firstRefusal (openingWith (s c) (start c .args .spare .now)) ≡ none) × (s c .device ≡ held c)
+passed c = passed-all _ (s c .device) _ (c .before .before .before .open-with-spare .ensures) _ (c .before .opened .given .1)
 
-fits : (c : tie.Else1) → length (c .before .before .before .before .before .before .before .before .before .before .args .spare .now) ≡ spareLength (held (c .before .before))
-fits c = c .if1 .left ∙ c .before .spare-len .ensures
+shape : (c : tie.After-known-told) → Shaped (held c) (s c)
+shape c = opened-with (s c) _ (held c) (passed c .0) (passed c .1) .0
 
-sound : (c : tie.Else3) → soundState (readState (c .before .before .before .before .before .before .before .before .before .before .before .before .before .before .args .state .now)) ≡ true
-sound c = sym (c .before .sound .ensures) ∙ not-false (c .before .sound .result) (c .if3 .left)
+left : (c : tie.After-known-told) → firstRefusal (flushChecks (start c .args .batch .now) (lend (s c) (start c .args .spare .now) (start c .args .plan .now) [])) ≡ firstRefusal (rest (held c) (s c) (start c .args .batch .now) (start c .args .plan .now))
+left c = to-rest (s c) _ _ _ (held c) (passed c)
 
-size-right : (c : tie.Else4) → (isEmpty (c .before .before .before .before .before .before .before .before .before .before .before .before .before .before .before .before .args .batch .now) || ltb (held (c .before .before .before .before .before .before .before .before) .B) (length (c .before .before .before .before .before .before .before .before .before .before .before .before .before .before .before .before .args .batch .now))) ≡ false
-size-right c = sym (c .before .wrong-size .ensures) ∙ c .if4 .left
+-- the place where it was opened, from behind each test
+abbrev opened₁ : tie.Else1 → tie.After-known-told
+opened₁ c = c .before .before
 
-inside : (c : tie.Else5) → all (λ x. ltb x (held (c .before .before .before .before .before .before .before .before .before .before) .N)) (c .before .before .before .before .before .before .before .before .before .before .before .before .before .before .before .before .before .before .args .batch .now) ≡ true
-inside c = sym (c .before .in-range .ensures) ∙ not-false (c .before .in-range .result) (c .if5 .left)
+abbrev opened₂ : tie.Else2 → tie.After-known-told
+opened₂ c = opened₁ (c .before .before)
+
+abbrev opened₃ : tie.Else3 → tie.After-known-told
+opened₃ c = opened₂ (c .before .before)
+
+abbrev opened₄ : tie.Else4 → tie.After-known-told
+opened₄ c = opened₃ (c .before .before)
+
+-- the checks that were passed there
+abbrev ClearTo-at : ℕ → tie.After-known-told → Type 0
+ClearTo-at n c = ClearTo n (rest (held c) (s c) (start c .args .batch .now) (start c .args .plan .now))
+
+passed₁ : (c : tie.Else1) → ClearTo-at 1 (opened₁ c)
+passed₁ c = (right-length _ _ (c .if1 .left), tt)
+
+passed₂ : (c : tie.Else2) → ClearTo-at 2 (opened₂ c)
+passed₂ c = (passed₁ (c .before .before) .0, (ap not (sym (c .before .sound .ensures) ∙ not-false (c .before .sound .result) (c .if2 .left)), tt))
+
+passed₃ : (c : tie.Else3) → ClearTo-at 3 (opened₃ c)
+passed₃ c = let p = passed₂ (c .before .before) in (p .0, (p .1 .0, (sym (c .before .wrong-size .ensures) ∙ c .if3 .left, tt)))
+
+passed₄ : (c : tie.Else4) → ClearTo-at 4 (opened₄ c)
+passed₄ c =
+    let p = passed₃ (c .before .before) in
+    (p .0, (p .1 .0, (p .1 .1 .0, (ap not (sym (c .before .in-range .ensures) ∙ not-false (c .before .in-range .result) (c .if4 .left)), tt))))
 
 returns : tie.Need-returns
-unfolding Clears
-returns c = not-open _ _ _ _ _ (answered-refusal _ _ _ (c .before .before .before .check-state .ensures) (c .before .opened2 .given .1))
-
-spare-len-requires : tie.Need-spare-len-requires
-spare-len-requires c κs = shape c .limits
+unfolding verdictOf flushChecks lend
+returns c = says-refused _ _ (front-refuses _ _ (refused-first _ _ _ (c .before .before .before .open-with-spare .ensures) _ (c .before .opened2 .given .1)))
 
 returns-2 : tie.Need-returns-2
-unfolding Clears refusalOf
-returns-2 c = spare-wrong _ _ _ _ _ (shape (c .before .before)) (λ e. c .if1 .taken (e ∙ sym (c .before .spare-len .ensures)))
+unfolding verdictOf refusalOf
+returns-2 c = says-refused _ _ (left (c .before .before) ∙ refuses-at 0 _ refl tt (wrong-length _ _ (c .if1 .taken)))
 
 returns-3 : tie.Need-returns-3
-unfolding Clears refusalOf
-returns-3 c = plan-wrong _ _ _ _ _ (shape (c .before .before .before .before)) (fits (c .before .before)) (c .if2 .taken)
-
-sound-requires : tie.Need-sound-requires
-sound-requires c κs = shape (c .before .before .before .before)
+unfolding verdictOf refusalOf
+returns-3 c =
+    let k = c .before .before in
+    says-refused _ _ (left (opened₁ k) ∙ refuses-at 1 _ refl (passed₁ k) (ap not (sym (c .before .sound .ensures) ∙ not-true (c .before .sound .result) (c .if2 .taken))))
 
 returns-4 : tie.Need-returns-4
-unfolding Clears refusalOf
+unfolding verdictOf refusalOf
 returns-4 c =
-    unsound _ _ _ _ _ (shape (c .before .before .before .before .before .before)) (fits (c .before .before .before .before)) (c .before .before .if2 .left)
-    (sym (c .before .sound .ensures) ∙ not-true (c .before .sound .result) (c .if3 .taken))
+    let k = c .before .before in
+    says-refused _ _ (left (opened₂ k) ∙ refuses-at 2 _ refl (passed₂ k) (sym (c .before .wrong-size .ensures) ∙ c .if3 .taken))
 
 returns-5 : tie.Need-returns-5
-unfolding Clears refusalOf
+unfolding verdictOf refusalOf
 returns-5 c =
-    size-wrong _ _ _ _ _ (shape (c .before .before .before .before .before .before .before .before)) (fits (c .before .before .before .before .before .before)) (c .before .before .before .before .if2 .left) (sound (c .before .before))
-    (sym (c .before .wrong-size .ensures) ∙ c .if4 .taken)
+    let k = c .before .before in
+    says-refused _ _ (left (opened₃ k) ∙ refuses-at 3 _ refl (passed₃ k) (ap not (sym (c .before .in-range .ensures) ∙ not-true (c .before .in-range .result) (c .if4 .taken))))
 
 returns-6 : tie.Need-returns-6
-unfolding Clears refusalOf
+unfolding verdictOf refusalOf
 returns-6 c =
-    page-outside _ _ _ _ _ (shape (c .before .before .before .before .before .before .before .before .before .before)) (fits (c .before .before .before .before .before .before .before .before)) (c .before .before .before .before .before .before .if2 .left) (sound (c .before .before .before .before)) (size-right (c .before .before))
-    (sym (c .before .in-range .ensures) ∙ not-true (c .before .in-range .result) (c .if5 .taken))
-
-free-count-requires : tie.Need-free-count-requires
-free-count-requires c κs = shape (c .before .before .before .before .before .before .before .before .before .before)
+    let k = c .before .before in
+    says-refused _ _ (left (opened₄ k) ∙ refuses-at 4 _ refl (passed₄ k) (lt-ltb (free (opened₄ k)) 2 (omega (arith, c .if5 .taken, c .before .free-count .ensures))))
 
 returns-7 : tie.Need-returns-7
-unfolding Clears refusalOf
+unfolding verdictOf
 returns-7 c =
-    too-few-free _ _ _ _ _ (shape (c .before .before .before .before .before .before .before .before .before .before .before .before)) (fits (c .before .before .before .before .before .before .before .before .before .before)) (c .before .before .before .before .before .before .before .before .if2 .left) (sound (c .before .before .before .before .before .before)) (size-right (c .before .before .before .before)) (inside (c .before .before))
-    (omega (arith, c .if6 .taken, c .before .free-count .ensures))
-
-returns-8 : tie.Need-returns-8
-unfolding Clears lend
-returns-8 c = (
-  shape (c .before .before .before .before .before .before .before .before .before .before .before .before),
-  none-applies _ _ _ _ _ (shape (c .before .before .before .before .before .before .before .before .before .before .before .before)) (fits (c .before .before .before .before .before .before .before .before .before .before)) (c .before .before .before .before .before .before .before .before .if2 .left) (sound (c .before .before .before .before .before .before)) (size-right (c .before .before .before .before)) (inside (c .before .before)) (omega (arith, c .if6 .left, c .before .free-count .ensures)),
-)
+    let k = c .before .before in
+    let p = passed₄ k in
+    says-passed _ _ (left (opened₄ k) ∙ is-clear _ (p .0, (p .1 .0, (p .1 .1 .0, (p .1 .1 .1 .0, (le-ltb (free (opened₄ k)) 2 (omega (arith, c .if5 .left, c .before .free-count .ensures)), tt)))))) (sym (passed (opened₄ k) .1))
 
 pub check-spec : {M : Type 1} → statement M
 check-spec = tie.close (tie.spec (λ c κs. search needs) (λ c. search needs) (λ c. search needs) returns
-    spare-len-requires returns-2 (λ c. search needs) returns-3 sound-requires returns-4 (λ c κs. search needs) returns-5
-    (λ c κs. search needs) returns-6 free-count-requires returns-7 returns-8)
+    (λ c. search needs) returns-2 (λ c κs. shape (opened₁ c)) returns-3 (λ c κs. search needs) returns-4
+    (λ c κs. search needs) returns-5 (λ c κs. shape (opened₄ c)) returns-6 returns-7)

@@ -1,68 +1,85 @@
--- Each refusal, in order, by the law of its return; then all are passed.
-use mathlib.Core.Path.{_≡_, sym, _∙_}
+-- The state is opened or not; then each refusal, in order, by what its test was of.
+use mathlib.Core.Path.{_≡_, refl, sym, ap, _∙_}
+use mathlib.Core.Option.{none}
+use mathlib.Core.Bool.{not}
+use Prim.Native.Nat.{ℕ}
 use borrow.Author.Needs.{needs}
 use borrow.Author.Tests.{not-true, not-false}
-use lib.ListN.{length}
-use Rattle.model.specs.Device.{Device, spareLength}
+use Rattle.model.specs.Device.{Device}
+use Rattle.model.specs.State.{State}
+use Rattle.calls.specs.Refusals.{firstRefusal, openingWith}
+use Rattle.calls.specs.Collection.{admitChecks}
 use Rattle.calls.specs.History.{lend}
+use Rattle.calls.proofs.Refusing.{ClearTo, front-refuses, refuses-at, is-clear, right-length, wrong-length}
 use Rattle.spare.specs.Read.{numbersOf}
 use Rattle.state.specs.Reading.{readState}
-use Rattle.state.specs.Shaped.{Shaped}
 use Rattle.state.specs.Answers.{refusalOf}
-use Rattle.state.proofs.Refusing.{answered-device, answered-refusal}
-use Rattle.collection.specs.Admitting.{Admits}
-use Rattle.collection.proofs.Ending.{closed, bad-spare, bad-plan, bad-erased, unsound}
+use Rattle.state.specs.Opening.{verdictOf}
+use Rattle.state.proofs.Refusing.{says-refused, says-passed, refused-first, passed-all, opened-with}
+use Rattle.collection.proofs.Ending.{rest, to-rest}
 use Rattle.collection.proofs.collect.check.Statement.{statement}
 use Rattle.collection.proofs.collect.check.Tie as tie
 
--- the device whose numbers the state has
+-- where the state is opened: what is lent, and the device whose numbers it has
+abbrev start : tie.After-known-told → tie.Start
+start c = c .before .before .before .before .before .before .before .before
+
+abbrev s : tie.After-known-told → State
+s c = readState (start c .args .state .now)
+
 abbrev held : tie.After-known-told → Device
 held c = numbersOf (c .before .opened .given .0 .0)
 
--- what the tests that were passed give, one after the other
-shape : (c : tie.After-known-told) → Shaped (held c) (readState (c .before .before .before .before .before .before .before .before .args .state .now))
-shape c = answered-device _ _ _ (c .before .before .before .check-state .ensures) (c .before .opened .given .1)
+-- what that says: its shape, and which checks are left
+passed : (c : tie.After-known-told) → (firstRefusal (openingWith (s c) (start c .args .spare .now)) ≡ none) × (s c .device ≡ held c)
+passed c = passed-all _ (s c .device) _ (c .before .before .before .open-with-spare .ensures) _ (c .before .opened .given .1)
 
-fits : (c : tie.Else1) → length (c .before .before .before .before .before .before .before .before .before .before .args .spare .now) ≡ spareLength (held (c .before .before))
-fits c = c .if1 .left ∙ c .before .spare-len .ensures
+left : (c : tie.After-known-told) → firstRefusal (admitChecks (lend (s c) (start c .args .spare .now) (start c .args .plan .now) (start c .args .erased .now))) ≡ firstRefusal (rest (held c) (s c) (start c .args .plan .now) (start c .args .erased .now))
+left c = to-rest (start c .args .state .now) (start c .args .spare .now) _ _ (held c) (passed c)
+
+-- the place where it was opened, from behind each test
+abbrev opened₁ : tie.Else1 → tie.After-known-told
+opened₁ c = c .before .before
+
+abbrev opened₂ : tie.Else2 → tie.After-known-told
+opened₂ c = opened₁ (c .before .before)
+
+-- the checks that were passed there
+abbrev ClearTo-at : ℕ → tie.After-known-told → Type 0
+ClearTo-at n c = ClearTo n (rest (held c) (s c) (start c .args .plan .now) (start c .args .erased .now))
+
+passed₁ : (c : tie.Else1) → ClearTo-at 1 (opened₁ c)
+passed₁ c = (right-length _ _ (c .if1 .left), tt)
+
+passed₂ : (c : tie.Else2) → ClearTo-at 2 (opened₂ c)
+passed₂ c = (passed₁ (c .before .before) .0, (right-length _ _ (c .if2 .left), tt))
 
 returns : tie.Need-returns
-unfolding Admits
-returns c = closed _ _ _ _ _ (answered-refusal _ _ _ (c .before .before .before .check-state .ensures) (c .before .opened2 .given .1))
-
-spare-len-requires : tie.Need-spare-len-requires
-spare-len-requires c κs = shape c .limits
+unfolding verdictOf lend
+returns c = says-refused _ _ (front-refuses _ _ (refused-first _ _ _ (c .before .before .before .open-with-spare .ensures) _ (c .before .opened2 .given .1)))
 
 returns-2 : tie.Need-returns-2
-unfolding Admits refusalOf
-returns-2 c = bad-spare _ _ _ _ _ (shape (c .before .before)) (λ e. c .if1 .taken (e ∙ sym (c .before .spare-len .ensures)))
+unfolding verdictOf refusalOf
+returns-2 c = says-refused _ _ (left (c .before .before) ∙ refuses-at 0 _ refl tt (wrong-length _ _ (c .if1 .taken)))
 
 returns-3 : tie.Need-returns-3
-unfolding Admits refusalOf
-returns-3 c = bad-plan _ _ _ _ _ (shape (c .before .before .before .before)) (fits (c .before .before)) (c .if2 .taken)
+unfolding verdictOf refusalOf
+returns-3 c = let k = c .before .before in says-refused _ _ (left (opened₁ k) ∙ refuses-at 1 _ refl (passed₁ k) (wrong-length _ _ (c .if2 .taken)))
 
 returns-4 : tie.Need-returns-4
-unfolding Admits refusalOf
-returns-4 c = bad-erased _ _ _ _ _ (shape (c .before .before .before .before .before .before)) (fits (c .before .before .before .before)) (c .before .before .if2 .left) (c .if3 .taken)
-
-sound-requires : tie.Need-sound-requires
-sound-requires c κs = shape (c .before .before .before .before .before .before)
+unfolding verdictOf refusalOf
+returns-4 c =
+    let k = c .before .before in
+    says-refused _ _ (left (opened₂ k) ∙ refuses-at 2 _ refl (passed₂ k) (ap not (sym (c .before .sound .ensures) ∙ not-true (c .before .sound .result) (c .if3 .taken))))
 
 returns-5 : tie.Need-returns-5
-unfolding Admits refusalOf
+unfolding verdictOf
 returns-5 c =
-    unsound _ _ _ _ _ (shape (c .before .before .before .before .before .before .before .before)) (fits (c .before .before .before .before .before .before)) (c .before .before .before .before .if2 .left) (c .before .before .if3 .left)
-    (sym (c .before .sound .ensures) ∙ not-true (c .before .sound .result) (c .if4 .taken))
-
-returns-6 : tie.Need-returns-6
-unfolding Admits lend
-returns-6 c = (
-  record { shape = shape (c .before .before .before .before .before .before .before .before); sound = sym (c .before .sound .ensures) ∙ not-false (c .before .sound .result) (c .if4 .left); fits = fits (c .before .before .before .before .before .before) },
-  c .before .before .before .before .if2 .left,
-  c .before .before .if3 .left,
-)
+    let k = c .before .before in
+    let p = passed₂ k in
+    says-passed _ _ (left (opened₂ k) ∙ is-clear _ (p .0, (p .1 .0, (ap not (sym (c .before .sound .ensures) ∙ not-false (c .before .sound .result) (c .if3 .left)), tt)))) (sym (passed (opened₂ k) .1))
 
 pub check-spec : {M : Type 1} → statement M
 check-spec = tie.close (tie.spec (λ c κs. search needs) (λ c. search needs) (λ c. search needs) returns
-    spare-len-requires returns-2 (λ c. search needs) returns-3 (λ c. search needs) returns-4 sound-requires returns-5
-    returns-6)
+    (λ c. search needs) returns-2 (λ c. search needs) returns-3
+    (λ c κs. let k = opened₂ c in opened-with (s k) _ (held k) (passed k .0) (passed k .1) .0) returns-4 returns-5)

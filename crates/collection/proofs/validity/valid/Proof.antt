@@ -2,7 +2,8 @@
 use native.Mathlib.Omega.{arith}
 use mathlib.Core.Path.{sym, ap, _∙_}
 use borrow.Author.Needs.{needs}
-use Rattle.state.specs.Answers.{soughtOf}
+use Rattle.state.specs.Answers.{asLooked}
+use Rattle.state.proofs.Seeking.{looked-is}
 use Rattle.collection.proofs.Judging.{group-fine, too-high, not-given, given-is}
 use Rattle.collection.proofs.validity.valid.Statement.{statement}
 use Rattle.collection.proofs.validity.valid.Tie as tie
@@ -18,13 +19,13 @@ seek-requires c κs =
 returns-2 : tie.Need-returns-2
 returns-2 c =
     not-given _ _ _ (c .before .before .before .before .before .before .before .pre .0) _ _ (c .before .before .before .before .middle .ensures) (c .before .before .if1 .left)
-    _ (c .before .seek .ensures) (c .match .keys2)
+    _ (looked-is _ _ (c .before .seek .ensures)) (c .match .keys2)
 
 returns-3 : tie.Need-returns-3
-unfolding soughtOf
+unfolding asLooked
 returns-3 c =
-    given-is _ _ _ (c .before .before .before .before .before .before .before .before .before .pre .0) _ _ (c .before .before .before .before .before .before .middle .ensures)
-    (c .before .before .before .before .if1 .left) _ _ _ (sym (ap soughtOf (c .before .q .given .1)) ∙ c .before .before .before .seek .ensures)
+    given-is _ _ _ (c .before .before .before .before .before .before .before .before .before .before .pre .0) _ _ (c .before .before .before .before .before .before .before .middle .ensures)
+    (c .before .before .before .before .before .if1 .left) _ _ _ (sym (ap asLooked (c .before .before .f .given .1)) ∙ looked-is _ _ (c .before .before .before .before .seek .ensures))
 
 pub valid-spec : {M : Type 1} → statement M
 valid-spec = tie.close (tie.spec (λ c κs. search needs) returns seek-requires (λ c. search needs) returns-2 returns-3)

@@ -5,14 +5,15 @@ use native.Mathlib.Omega.{arith}
 use borrow.Author.Needs.{needs}
 use Rattle.state.specs.declared.answers.Collected.{Collected}
 use Rattle.state.specs.Answers.{collectAnswer}
-use Rattle.export.specs.Packing.{bit20, packed, Fitting}
+use Rattle.calls.specs.Bounds.{pageLimit, Bounded}
+use Rattle.export.specs.Packing.{packed}
 use Rattle.export.proofs.pack.collect.Statement.{statement}
 use Rattle.export.proofs.pack.collect.Tie as tie
 
 -- what the fields hold
-bounds : (c : tie.After-known-told) → (c .before .a .given .0 .0 < bit20) × (c .before .a .given .0 .1 .0 ≤ 256) × (c .before .a .given .0 .1 .1 .0 ≤ 4096)
-unfolding Fitting collectAnswer
-bounds c = subst (λ (a : Collected). Fitting (collectAnswer a)) (c .before .a .given .1) (c .before .before .before .pre)
+bounds : (c : tie.After-known-told) → (c .before .a .given .0 .0 < pageLimit) × (c .before .a .given .0 .1 .0 ≤ 256) × (c .before .a .given .0 .1 .1 .0 ≤ 4096)
+unfolding Bounded collectAnswer
+bounds c = subst (λ (a : Collected). Bounded (collectAnswer a)) (c .before .a .given .1) (c .before .before .before .pre)
 
 mul-result : tie.Need-mul-result
 mul-result c = omega (arith, bounds c)

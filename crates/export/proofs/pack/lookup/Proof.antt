@@ -5,37 +5,38 @@ use native.Mathlib.Omega.{arith}
 use borrow.Author.Needs.{needs}
 use Rattle.state.specs.declared.answers.Lookup.{Lookup}
 use Rattle.state.specs.Answers.{lookupAnswer}
-use Rattle.export.specs.Packing.{bit20, packed, Fitting}
+use Rattle.calls.specs.Bounds.{pageLimit, Bounded}
+use Rattle.export.specs.Packing.{packed}
 use Rattle.export.proofs.pack.lookup.Statement.{statement}
 use Rattle.export.proofs.pack.lookup.Tie as tie
 
 -- what the fields hold
-bounds : (c : tie.After-known-told) → (c .before .a .given .0 .0 < bit20) × (c .before .a .given .0 .1 .0 < bit20) × (c .before .a .given .0 .1 .1 .0 ≤ 512)
-unfolding Fitting lookupAnswer
-bounds c = subst (λ (a : Lookup). Fitting (lookupAnswer a)) (c .before .a .given .1) (c .before .before .before .pre)
+bounds : (c : tie.After-known-told) → (c .before .a .given .0 .0 .page < pageLimit) × (c .before .a .given .0 .0 .predicted < pageLimit) × (c .before .a .given .0 .0 .levels ≤ 512)
+unfolding Bounded lookupAnswer
+bounds c = subst (λ (a : Lookup). Bounded (lookupAnswer a)) (c .before .a .given .1) (c .before .before .before .pre)
 
 levels : (c : tie.After-known-told2) → c .before .a2 .given .0 .0 ≤ 512
-unfolding Fitting lookupAnswer
-levels c = subst (λ (a : Lookup). Fitting (lookupAnswer a)) (c .before .a2 .given .1) (c .before .before .before .pre)
+unfolding Bounded lookupAnswer
+levels c = subst (λ (a : Lookup). Bounded (lookupAnswer a)) (c .before .a2 .given .1) (c .before .before .before .pre)
 
 mul-result : tie.Need-mul-result
-mul-result c = omega (arith, bounds c)
+mul-result c = omega (arith, bounds (c .before))
 
 add-result : tie.Need-add-result
-add-result c = omega (arith, bounds c)
+add-result c = omega (arith, bounds (c .before))
 
 add-result-2 : tie.Need-add-result-2
-add-result-2 c = omega (arith, bounds c)
+add-result-2 c = omega (arith, bounds (c .before .before))
 
 add-result-3 : tie.Need-add-result-3
-add-result-3 c = omega (arith, bounds c)
+add-result-3 c = omega (arith, bounds (c .before .before .before))
 
 mul-result-3 : tie.Need-mul-result-3
 mul-result-3 c = omega (arith, levels c)
 
 returns : tie.Need-returns
 unfolding packed lookupAnswer
-returns c = sym (ap (λ (a : Lookup). packed (lookupAnswer a)) (c .before .a .given .1))
+returns c = sym (ap (λ (a : Lookup). packed (lookupAnswer a)) (c .before .before .before .before .a .given .1))
 
 returns-2 : tie.Need-returns-2
 unfolding packed lookupAnswer

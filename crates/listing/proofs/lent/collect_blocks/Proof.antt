@@ -9,6 +9,7 @@ use Rattle.listing.proofs.Parts.{front-length, front-back, front-zeros,
 use borrow.Author.Needs.{needs}
 use Rattle.listing.proofs.lent.collect_blocks.Statement.{statement}
 use Rattle.listing.proofs.lent.collect_blocks.Tie as tie
+use Rattle.listing.specs.Sizes.{blockRoom}
 
 slice-aggregate-collect : tie.Need-slice-aggregate-collect
 slice-aggregate-collect c = front-length _ (c .before .before .before .before .before .args .state .now) (omega arith)
@@ -20,7 +21,7 @@ slice-aggregate-collect-3 : tie.Need-slice-aggregate-collect-3
 slice-aggregate-collect-3 c = front-length _ (c .before .before .before .before .plan-buffer .result) (omega (arith, ap length (c .before .before .before .before .plan-buffer .ensures), length-replicate {A = ℕ} 256 0))
 
 slice-aggregate-collect-4 : tie.Need-slice-aggregate-collect-4
-slice-aggregate-collect-4 c = front-length _ (c .before .before .before .before .erased-buffer .result) (omega (arith, ap length (c .before .before .before .before .erased-buffer .ensures), length-replicate {A = ℕ} 2048 0))
+slice-aggregate-collect-4 c = front-length _ (c .before .before .before .before .erased-buffer .result) (omega (arith, ap length (c .before .before .before .before .erased-buffer .ensures), length-replicate {A = ℕ} blockRoom 0))
 
 returns : tie.Need-returns
 returns c =

@@ -16,7 +16,7 @@ returns-2 c = sym (ap (λ (a : _). number (lookupAnswer a)) (c .enum-told2 .give
 
 returns-3 : tie.Need-returns-3
 unfolding number lookupAnswer
-returns-3 c = c .number .ensures ∙ sym (ap (λ (a : _). number (lookupAnswer a)) (c .before .before .a .given .1))
+returns-3 c = c .number .ensures .0 ∙ sym (ap (λ (a : _). number (lookupAnswer a)) (c .before .before .a .given .1))
 
 pub looked-up-spec : {M : Type 1} → statement M
 looked-up-spec = tie.close (tie.spec (λ c. search needs) (λ c. search needs) (λ c. search needs) (λ c κs. search needs)

@@ -1,5 +1,6 @@
 -- The part in use is lent; a listing has at most 512 records.
 use native.Mathlib.Omega.{arith}
+use mathlib.Core.List.{[]}
 use Rattle.listing.proofs.Parts.{front-length}
 use Rattle.listing.proofs.Listed.{few-records}
 use borrow.Author.Needs.{needs}
@@ -12,7 +13,7 @@ slice-aggregate-list c = front-length _ (c .before .before .before .args .state 
 show-listing-requires : tie.Need-show-listing-requires
 show-listing-requires c κs =
     let list = c .before .before .before .before .before .list in
-    let few = few-records _ _ _ _ _ _ (list .ensures) (c .before .before .listed .given .1) in
+    let few = few-records _ _ (list .ensures []) (c .before .before .listed .given .1) in
     omega (arith, few, list .kept .1 .1 .0, c .before .before .before .before .before .before .before .before .listing-buffer .ensures)
 
 pub obey-list-spec : {M : Type 1} → statement M

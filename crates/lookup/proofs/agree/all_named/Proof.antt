@@ -8,6 +8,7 @@ use Rattle.calls.specs.Lookup.{seek}
 use Rattle.calls.specs.Agreement.{eachBelow, isNamed}
 use Rattle.state.specs.Reading.{readState}
 use Rattle.state.proofs.Places.{small}
+use Rattle.state.proofs.Seeking.{looked-is}
 use Rattle.lookup.proofs.Comparing.{each-more}
 use Rattle.lookup.proofs.Agreeing.{can-seek, page-unnamed, pages-named}
 use Rattle.lookup.proofs.agree.all_named.Statement.{statement}
@@ -30,13 +31,13 @@ is-named-requires : tie.Need-is-named-requires Inv-loop μ-loop
 is-named-requires c κs = tt
 
 returns : tie.Need-returns Inv-loop μ-loop
-returns c = sym (page-unnamed _ _ _ (c .before .before .before .before .before .before .before .pre) _ (omega (arith, c .before .before .before .loop-test .taken)) (sym (c .before .is-named .ensures ∙ ap isNamed (c .before .before .seek .ensures)) ∙ not-true (c .before .is-named .result) (c .if1 .taken)))
+returns c = sym (page-unnamed _ _ _ (c .before .before .before .before .before .before .before .pre) _ (omega (arith, c .before .before .before .loop-test .taken)) (sym (c .before .is-named .ensures ∙ ap isNamed (looked-is _ _ (c .before .before .seek .ensures))) ∙ not-true (c .before .is-named .result) (c .if1 .taken)))
 
 add-x : tie.Need-add-x Inv-loop μ-loop
 add-x c = omega (arith, small _ (c .before .before .before .before .before .before .before .pre .shape .limits) .pages)
 
 loop-again : tie.Need-loop-again Inv-loop μ-loop
-loop-again c = (each-more _ _ _ (c .before .before .before .before .loop .inv .0) (sym (c .before .is-named .ensures ∙ ap isNamed (c .before .before .seek .ensures)) ∙ not-false (c .before .is-named .result) (c .if1 .left)), omega arith)
+loop-again c = (each-more _ _ _ (c .before .before .before .before .loop .inv .0) (sym (c .before .is-named .ensures ∙ ap isNamed (looked-is _ _ (c .before .before .seek .ensures))) ∙ not-false (c .before .is-named .result) (c .if1 .left)), omega arith)
 
 returns-2 : tie.Need-returns-2 Inv-loop μ-loop
 returns-2 c = sym (pages-named _ _ _ (c .before .before .before .before .pre) _ (omega (arith, c .loop-test .left, c .before .loop .inv .1)) (c .before .loop .inv .0))

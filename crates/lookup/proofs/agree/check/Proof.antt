@@ -1,52 +1,44 @@
--- Each refusal, in order, by the law of its return; a state that none of them applies to has passed.
+-- The state is opened or not; then it is sound or not.
 use mathlib.Core.Path.{_≡_, sym, _∙_}
+use mathlib.Core.Option.{none}
 use borrow.Author.Needs.{needs}
 use borrow.Author.Tests.{not-true, not-false}
-use lib.ListN.{length}
-use Rattle.model.specs.Device.{Device, spareLength}
+use Rattle.model.specs.State.{State}
+use Rattle.calls.specs.Refusals.{firstRefusal, openingWith}
+use Rattle.calls.proofs.Refusing.{front-refuses}
 use Rattle.spare.specs.Read.{numbersOf}
 use Rattle.state.specs.Reading.{readState}
-use Rattle.state.specs.Shaped.{Shaped}
 use Rattle.state.specs.Answers.{refusalOf}
-use Rattle.lookup.specs.Agreeing.{Checks}
-use Rattle.state.proofs.Refusing.{answered-device, answered-refusal}
-use Rattle.lookup.proofs.Agreeing.{check-closed, check-spare, check-unsound}
+use Rattle.state.specs.Opening.{verdictOf}
+use Rattle.state.proofs.Refusing.{says-refused, says-passed, refused-first, passed-all, opened-with}
+use Rattle.lookup.proofs.Agreeing.{check-unsound, check-clear}
 use Rattle.lookup.proofs.agree.check.Statement.{statement}
 use Rattle.lookup.proofs.agree.check.Tie as tie
 
--- the device whose numbers the state has
-abbrev held : tie.After-known-told → Device
-held c = numbersOf (c .before .opened .given .0 .0)
+-- the state, where it is opened, and what that says
+abbrev s : tie.After-known-told → State
+s c = readState (c .before .before .before .before .before .before .args .state .now)
 
--- what the tests that were passed give, one after the other
-shape : (c : tie.After-known-told) → Shaped (held c) (readState (c .before .before .before .before .before .before .args .state .now))
-shape c = answered-device _ _ _ (c .before .before .before .check-state .ensures) (c .before .opened .given .1)
-
-fits : (c : tie.Else1) → length (c .before .before .before .before .before .before .before .before .args .spare .now) ≡ spareLength (held (c .before .before))
-fits c = c .if1 .left ∙ c .before .spare-len .ensures
+passed : (c : tie.After-known-told) → (firstRefusal (openingWith (s c) (c .before .before .before .before .before .before .args .spare .now)) ≡ none) × (s c .device ≡ numbersOf (c .before .opened .given .0 .0))
+passed c = passed-all _ (s c .device) _ (c .before .before .before .open-with-spare .ensures) _ (c .before .opened .given .1)
 
 returns : tie.Need-returns
-unfolding Checks
-returns c = check-closed _ _ _ (answered-refusal _ _ _ (c .before .before .before .check-state .ensures) (c .before .opened2 .given .1))
-
-spare-len-requires : tie.Need-spare-len-requires
-spare-len-requires c κs = shape c .limits
-
-returns-2 : tie.Need-returns-2
-unfolding Checks refusalOf
-returns-2 c = check-spare _ _ _ (shape (c .before .before)) (λ e. c .if1 .taken (e ∙ sym (c .before .spare-len .ensures)))
+unfolding verdictOf
+returns c = says-refused _ _ (front-refuses _ _ (refused-first _ _ _ (c .before .before .before .open-with-spare .ensures) _ (c .before .opened2 .given .1)))
 
 sound-requires : tie.Need-sound-requires
-sound-requires c κs = shape (c .before .before)
+sound-requires c κs = opened-with _ _ _ (passed c .0) (passed c .1) .0
+
+returns-2 : tie.Need-returns-2
+unfolding verdictOf refusalOf
+returns-2 c = says-refused _ _ (check-unsound _ _ (passed (c .before .before) .0) (sym (c .before .sound .ensures) ∙ not-true (c .before .sound .result) (c .if1 .taken)))
 
 returns-3 : tie.Need-returns-3
-unfolding Checks refusalOf
-returns-3 c = check-unsound _ _ _ (shape (c .before .before .before .before)) (fits (c .before .before)) (sym (c .before .sound .ensures) ∙ not-true (c .before .sound .result) (c .if2 .taken))
-
-returns-4 : tie.Need-returns-4
-unfolding Checks
-returns-4 c = record { shape = shape (c .before .before .before .before); fits = fits (c .before .before); sound = sym (c .before .sound .ensures) ∙ not-false (c .before .sound .result) (c .if2 .left) }
+unfolding verdictOf
+returns-3 c =
+    let p = passed (c .before .before) in
+    says-passed _ _ (check-clear _ _ (p .0) (sym (c .before .sound .ensures) ∙ not-false (c .before .sound .result) (c .if1 .left))) (sym (p .1))
 
 pub check-spec : {M : Type 1} → statement M
-check-spec = tie.close (tie.spec (λ c κs. search needs) (λ c. search needs) (λ c. search needs) returns
-    spare-len-requires returns-2 sound-requires returns-3 returns-4)
+check-spec = tie.close (tie.spec (λ c κs. search needs) (λ c. search needs) (λ c. search needs) returns sound-requires
+    returns-2 returns-3)

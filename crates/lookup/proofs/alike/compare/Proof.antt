@@ -5,10 +5,12 @@ use mathlib.Core.Bool.{Bool, true}
 use borrow.Author.Tests.{not-true, not-false}
 use Prim.Native.Nat.{_-_, _≤_}
 use Rattle.calls.specs.Outcome.{agreed}
-use Rattle.calls.specs.Agreement.{eachBelow, isNamed, agree}
+use Rattle.calls.specs.Agreement.{eachBelow, isNamed}
 use Rattle.state.specs.Reading.{readState}
 use Rattle.state.specs.Answers.{refusalOf, agreeAnswer}
 use Rattle.state.proofs.Places.{small}
+use Rattle.state.proofs.Seeking.{looked-is}
+use Rattle.lookup.specs.Agreeing.{compared}
 use Rattle.lookup.proofs.Agreeing.{can-seek, page-unnamed, namedAt, alikeAt, Compared, more-alike, more-apart, first-unnamed, second-unnamed, all-compared}
 use Rattle.lookup.proofs.alike.compare.Statement.{statement}
 use Rattle.lookup.proofs.alike.compare.Tie as tie
@@ -21,13 +23,13 @@ abbrev μ-loop : tie.MeasureT-loop
 
 -- what the tests were of
 first-tested : (c : tie.After-is-named Inv-loop μ-loop) → namedAt (readState (c .before .before .before .before .before .before .before .before .args .state-a .now)) (c .before .before .before .before .before .before .before .before .args .spare-a .now) (c .before .before .before .loop .x) ≡ c .is-named .result
-first-tested c = sym (c .is-named .ensures ∙ ap isNamed (c .before .seek .ensures))
+first-tested c = sym (c .is-named .ensures ∙ ap isNamed (looked-is _ _ (c .before .seek .ensures)))
 
 second-tested : (c : tie.After-is-named2 Inv-loop μ-loop) → namedAt (readState (c .before .before .before .before .before .before .before .before .before .before .before .args .state-b .now)) (c .before .before .before .before .before .before .before .before .before .before .before .args .spare-b .now) (c .before .before .before .before .before .before .loop .x) ≡ c .is-named2 .result
-second-tested c = sym (c .is-named2 .ensures ∙ ap isNamed (c .before .seek2 .ensures))
+second-tested c = sym (c .is-named2 .ensures ∙ ap isNamed (looked-is _ _ (c .before .seek2 .ensures)))
 
 pages-tested : (c : tie.After-are-alike Inv-loop μ-loop) → alikeAt (readState (c .before .before .before .before .before .before .before .before .before .before .before .before .before .args .state-a .now)) (c .before .before .before .before .before .before .before .before .before .before .before .before .before .args .spare-a .now) (readState (c .before .before .before .before .before .before .before .before .before .before .before .before .before .args .state-b .now)) (c .before .before .before .before .before .before .before .before .before .before .before .before .before .args .spare-b .now) (c .before .before .before .before .before .before .before .before .loop .x) ≡ c .are-alike .result
-pages-tested c = rw (← c .before .before .before .before .before .before .seek .ensures, ← c .before .before .before .seek2 .ensures) (sym (c .are-alike .ensures))
+pages-tested c = rw (← looked-is _ _ (c .before .before .before .before .before .before .seek .ensures), ← looked-is _ _ (c .before .before .before .seek2 .ensures)) (sym (c .are-alike .ensures))
 
 -- both lookups are named
 first-named : (c : tie.Else1 Inv-loop μ-loop) → namedAt (readState (c .before .before .before .before .before .before .before .before .before .args .state-a .now)) (c .before .before .before .before .before .before .before .before .before .args .spare-a .now) (c .before .before .before .before .loop .x) ≡ true
@@ -48,7 +50,7 @@ is-named-requires c κs = tt
 
 returns : tie.Need-returns Inv-loop μ-loop
 unfolding agreeAnswer refusalOf
-returns c = first-unnamed _ _ _ _ _ (c .before .before .before .before .before .before .before .before .before .pre .0) _ (c .before .before .before .before .before .before .before .before .before .pre .1) (page-unnamed _ _ _ (c .before .before .before .before .before .before .before .before .before .pre .0) _ (omega (arith, c .before .before .before .loop-test .taken)) (first-tested (c .before) ∙ not-true (c .before .is-named .result) (c .if1 .taken)))
+returns c = first-unnamed _ _ _ _ (page-unnamed _ _ _ (c .before .before .before .before .before .before .before .before .before .pre .0) _ (omega (arith, c .before .before .before .loop-test .taken)) (first-tested (c .before) ∙ not-true (c .before .is-named .result) (c .if1 .taken)))
 
 seek-requires-2 : tie.Need-seek-requires-2 Inv-loop μ-loop
 seek-requires-2 c κs = can-seek _ _ _ (c .before .before .before .before .before .before .before .before .before .pre .1) _ (omega (arith, c .before .before .before .loop-test .taken, c .before .before .before .before .before .before .before .before .before .pre .2))
@@ -58,7 +60,7 @@ is-named-requires-2 c κs = tt
 
 returns-2 : tie.Need-returns-2 Inv-loop μ-loop
 unfolding agreeAnswer refusalOf
-returns-2 c = second-unnamed _ _ _ _ _ (c .before .before .before .before .before .before .before .before .before .before .before .before .pre .0) _ (c .before .before .before .before .before .before .before .before .before .before .before .before .pre .1) (page-unnamed _ _ _ (c .before .before .before .before .before .before .before .before .before .before .before .before .pre .1) _ (omega (arith, c .before .before .before .before .before .before .loop-test .taken, c .before .before .before .before .before .before .before .before .before .before .before .before .pre .2)) (second-tested (c .before) ∙ not-true (c .before .is-named2 .result) (c .if2 .taken)))
+returns-2 c = second-unnamed _ _ _ _ (page-unnamed _ _ _ (c .before .before .before .before .before .before .before .before .before .before .before .before .pre .1) _ (omega (arith, c .before .before .before .before .before .before .loop-test .taken, c .before .before .before .before .before .before .before .before .before .before .before .before .pre .2)) (second-tested (c .before) ∙ not-true (c .before .is-named2 .result) (c .if2 .taken)))
 
 are-alike-requires : tie.Need-are-alike-requires Inv-loop μ-loop
 are-alike-requires c κs = tt
@@ -76,8 +78,8 @@ loop-again-2 : tie.Need-loop-again-2 Inv-loop μ-loop
 loop-again-2 c = (more-alike _ _ _ _ _ _ (c .before .before .before .before .before .before .before .before .before .loop .inv .0) (first-named (c .before .before .before .before .before)) (second-named (c .before .before)) (pages-tested (c .before) ∙ not-false (c .before .are-alike .result) (c .if3 .left)), omega arith)
 
 -- the answer after the last page, by the flag
-ended : (c : tie.After-loop Inv-loop μ-loop) (t : Bool) → c .before .loop .same ≡ t → agreed t ≡ agree (readState (c .before .before .before .before .before .before .args .state-a .now)) (c .before .before .before .before .before .before .args .spare-a .now) (readState (c .before .before .before .before .before .before .args .state-b .now)) (c .before .before .before .before .before .before .args .spare-b .now)
-ended c t e = all-compared _ _ _ _ _ (c .before .before .before .before .before .before .pre .0) _ (c .before .before .before .before .before .before .pre .1) _ _ (c .before .loop .inv .0) (omega (arith, c .loop-test .left, c .before .loop .inv .1)) (c .before .before .before .before .before .before .pre .2) t e
+ended : (c : tie.After-loop Inv-loop μ-loop) (t : Bool) → c .before .loop .same ≡ t → agreed t ≡ compared (readState (c .before .before .before .before .before .before .args .state-a .now)) (c .before .before .before .before .before .before .args .spare-a .now) (readState (c .before .before .before .before .before .before .args .state-b .now)) (c .before .before .before .before .before .before .args .spare-b .now)
+ended c t e = all-compared _ _ _ _ _ _ (c .before .before .before .before .before .before .pre .0) (c .before .before .before .before .before .before .pre .1) _ _ (c .before .loop .inv .0) (omega (arith, c .loop-test .left, c .before .loop .inv .1)) (c .before .before .before .before .before .before .pre .2) t e
 
 returns-3 : tie.Need-returns-3 Inv-loop μ-loop
 unfolding agreeAnswer

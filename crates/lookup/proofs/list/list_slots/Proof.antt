@@ -5,8 +5,7 @@ use Prim.Native.Nat.{_-_, _≤_}
 use lib.ListN.{length}
 use Rattle.model.specs.Lists.{store}
 use Rattle.group.specs.Layout.{slotsOf}
-use Rattle.lookup.specs.Listing.{tens}
-use Rattle.lookup.proofs.Listing.{listedFrom, listed-on, listed-all}
+use Rattle.lookup.proofs.Listing.{tens, listedFrom, listed-on, listed-all}
 use Rattle.lookup.proofs.list.list_slots.Statement.{statement}
 use Rattle.lookup.proofs.list.list_slots.Tie as tie
 

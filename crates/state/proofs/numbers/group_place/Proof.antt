@@ -10,10 +10,10 @@ count-place-requires : tie.Need-count-place-requires
 count-place-requires c κs = small _ (c .pre .0) .blocks
 
 add-result : tie.Need-add-result
-add-result c = omega (arith, group-from (numbersOf (c .before .args .d)) (c .before .args .k) _ (c .count-place .ensures), group-small _ _ (c .before .pre .0) (c .before .pre .1))
+add-result c = omega (arith, group-from (numbersOf (c .before .args .d)) (c .before .args .k) _ (c .count-place .ensures _), group-small _ _ (c .before .pre .0) (c .before .pre .1))
 
 returns : tie.Need-returns
-returns c = group-from _ _ _ (c .count-place .ensures)
+returns c = group-from _ _ _ (c .count-place .ensures _)
 
 pub group-place-spec : {M : Type 1} → statement M
 group-place-spec = tie.close (tie.spec count-place-requires (λ c. search needs) add-result returns)

@@ -5,7 +5,7 @@ use mathlib.Core.List.{[]}
 use Rattle.model.specs.Device.{pages}
 use Rattle.spare.specs.Read.{numbersOf, namedOf}
 use Rattle.record.specs.Read.{pageOf}
-use Rattle.state.specs.Answers.{soughtOf}
+use Rattle.state.specs.Answers.{refusalOf, lookupAnswer}
 use Rattle.state.proofs.Places.{pages-small}
 use Rattle.state.proofs.Seeking.{no-page, page-exists, page-named, page-unnamed}
 use borrow.Author.Needs.{needs}
@@ -16,7 +16,7 @@ mul-pages : tie.Need-mul-pages
 mul-pages c = omega (arith, pages-small (numbersOf (c .before .before .args .d)) (c .before .before .pre .0))
 
 returns : tie.Need-returns
-unfolding soughtOf pages pageOf
+unfolding refusalOf lookupAnswer pages pageOf
 returns c = λ L. no-page _ _ _ _ _ (sym (ap pageOf (c .enum-told .given .1)) ∙ c .before .before .page .ensures L)
 
 page-named-requires : tie.Need-page-named-requires
@@ -24,11 +24,11 @@ unfolding pages pageOf
 page-named-requires c κs = (c .before .before .before .before .before .before .pre .0, c .before .before .before .before .before .before .pre .1, page-exists (numbersOf (c .before .before .before .before .before .before .args .d)) (c .before .before .before .before .before .before .args .spare .now) (c .before .before .before .before .before .before .args .page) (c .before .before .before .before .before .before .args .n) _ _ (sym (ap pageOf (c .before .predicted .given .1)) ∙ c .before .before .before .page .ensures []))
 
 returns-2 : tie.Need-returns-2
-unfolding soughtOf pages pageOf namedOf
+unfolding refusalOf lookupAnswer pages pageOf namedOf
 returns-2 c = λ L. page-unnamed _ _ _ _ _ _ (sym (ap pageOf (c .before .before .before .before .predicted .given .1)) ∙ c .before .before .before .before .before .before .page .ensures L) (sym (ap namedOf (c .enum-told2 .given .1)) ∙ c .before .before .page-named .ensures)
 
 returns-3 : tie.Need-returns-3
-unfolding soughtOf pages pageOf namedOf
+unfolding lookupAnswer pages pageOf namedOf
 returns-3 c = λ L. page-named _ _ _ _ _ _ _ (sym (ap pageOf (c .before .before .before .before .before .predicted .given .1)) ∙ c .before .before .before .before .before .before .before .page .ensures L) (sym (ap namedOf (c .before .p .given .1)) ∙ c .before .before .before .page-named .ensures)
 
 pub named-spec : {M : Type 1} → statement M

@@ -9,7 +9,7 @@ use Rattle.model.proofs.Limits.{group-inside}
 use Rattle.record.specs.Read.{bare}
 use Rattle.group.specs.Answers.{foundOf, lookedOf}
 use Rattle.state.specs.Reading.{readState}
-use Rattle.state.specs.Answers.{soughtOf}
+use Rattle.state.specs.Answers.{lookupAnswer}
 use Rattle.state.proofs.Seeking.{held-word, held-is, seek-held, seek-none}
 use borrow.Author.Needs.{needs}
 use Rattle.state.proofs.seek.seek.Statement.{statement}
@@ -27,11 +27,11 @@ named-requires : tie.Need-named-requires
 named-requires c κs = (c .before .before .before .before .before .before .pre .0 .limits, c .before .before .before .before .before .before .pre .1, held-word _ _ _ _ (c .before .before .before .before .before .before .pre .3) _ (hit c))
 
 returns : tie.Need-returns
-unfolding soughtOf lookedOf
+unfolding lookupAnswer lookedOf
 returns c = seek-held _ _ _ _ (c .before .before .before .before .before .before .before .pre .0 .numbers) _ _ _ (held-is _ _ _ _ (c .before .before .before .before .before .before .before .pre .3) _ (hit (c .before))) (sym (ap lookedOf (c .before .before .hit .given .1)) ∙ c .before .before .before .before .find .ensures .1) (c .named .ensures _)
 
 returns-2 : tie.Need-returns-2
-unfolding soughtOf foundOf lookedOf
+unfolding lookupAnswer foundOf lookedOf
 returns-2 c = seek-none _ _ _ _ (c .before .before .before .before .before .before .pre .0 .numbers) _ (sym (ap foundOf (c .before .hit2 .given .1)) ∙ c .before .before .before .find .ensures .0) (sym (ap lookedOf (c .before .hit2 .given .1)) ∙ c .before .before .before .find .ensures .1)
 
 pub seek-spec : {M : Type 1} → statement M

@@ -1,0 +1,37 @@
+-- docs/LAYOUT.md: where a region of the state begins, and the bytes of its cells. Assumes nothing.
+use Prim.Native.Nat.{ℕ, zero, suc, _+_, _*_}
+use mathlib.Core.List.{List, [], _∷_}
+use lib.ListN.{getD, take, drop}
+use Rattle.model.specs.Device.{Device, Region, regions, regionsLength}
+
+-- the regions by their place in the table `regions`, whose first is the device numbers
+abbrev pub countRegion : ℕ
+countRegion = 1
+
+abbrev pub groupRegion : ℕ
+groupRegion = 2
+
+-- region r; none behind the last
+abbrev pub regionAt : List Region → ℕ → Region
+regionAt l r = getD l r (record { cells = 0; width = 0 })
+
+-- it begins behind those before it
+unfoldable pub placeAt : List Region → ℕ → ℕ
+placeAt l r = regionsLength (take r l)
+
+-- where its cell k begins
+unfoldable pub cellPlace : Device → ℕ → ℕ → ℕ
+cellPlace d r k = placeAt (regions d) r + k * regionAt (regions d) r .width
+
+-- the cell's bytes
+unfoldable pub cell : Device → ℕ → List ℕ → ℕ → List ℕ
+cell d r b k = take (regionAt (regions d) r .width) (drop (cellPlace d r k) b)
+
+-- f k, f (k + 1), .., n of them
+unfoldable pub listFrom : {A : Type 0} → (ℕ → A) → ℕ → ℕ → List A
+listFrom f k zero = []
+listFrom f k (suc n) = f k ∷ listFrom f (suc k) n
+
+-- a region is read cell by cell
+unfoldable pub readRegion : {A : Type 0} → (List ℕ → A) → Device → ℕ → List ℕ → List A
+readRegion f d r b = listFrom (λ k. f (cell d r b k)) 0 (regionAt (regions d) r .cells)
