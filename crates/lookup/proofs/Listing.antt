@@ -37,7 +37,7 @@ use Rattle.state.specs.Reading.{readState}
 use Rattle.state.specs.Ran.{listingSlices, Ran}
 use Rattle.state.proofs.Refusing.{ran-refused, ran-accepted}
 use Rattle.state.proofs.GroupChecks.{no-group, unsound-group, sound-group}
-use Rattle.state.proofs.Handing.{Lent, part-encodes}
+use Rattle.state.proofs.Handing.{GroupPart, part-encodes}
 
 -- the bytes of slots one after the other
 abbrev pub tens : List Slot → List ℕ
@@ -74,7 +74,7 @@ group-tens n [] = refl
 group-tens n (l ∷ g) = level-tens n l (flatFrom (suc n) g) ∙ ap (λ (b : List ℕ). levelBytes n l ++ b) (group-tens (suc n) g)
 
 -- a sound group's part has room, and its slots are the group's
-module _ (s : List ℕ) (k a e N : ℕ) (l : Lent s k a e) (sound : soundGroup N k (groupAt (readState s) k) ≡ true) where
+module _ (s : List ℕ) (k a e N : ℕ) (l : GroupPart s k a e) (sound : soundGroup N k (groupAt (readState s) k) ≡ true) where
   abbrev part : List ℕ
   part = take (e - a) (drop a s)
 

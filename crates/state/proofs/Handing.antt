@@ -41,7 +41,7 @@ module _ (s t : List ℕ) (a n : ℕ) (inside : a ≤ length s) (size : length t
       ∙ drop-drop n a s
 
 -- what is known of the part from a to e where it is group k's
-pub record Lent (s : List ℕ) (k a e : ℕ) : Type 0 where
+pub record GroupPart (s : List ℕ) (k a e : ℕ) : Type 0 where
   pub inside : e ≤ length s
   pub size : length (take (e - a) (drop a s)) ≡ groupLength
   pub group : readGroup (take (e - a) (drop a s)) ≡ groupAt (readState s) k
@@ -53,7 +53,7 @@ module _ (d : Device) (s : List ℕ) (h : Shaped d (readState s)) (k a e : ℕ) 
       let n : e - a ≡ groupLength = omega (arith, start, end) in
       rw (n, start)
 
-  pub lent : Lent s k a e
+  pub lent : GroupPart s k a e
   lent = record {
     inside = omega (arith, end, group-in d s h k lt);
     size = ap length part-is ∙ length-group d s h k lt;
@@ -80,7 +80,7 @@ module _ (d : Device) (s : List ℕ) (h : Shaped d (readState s)) (k a e : ℕ) 
       record { before = rw here (before-part s t a (e - a) low n); behind = rw there (behind-part s t a (e - a) low n) }
 
 -- a sound group's part encodes it
-pub part-encodes : (s : List ℕ) (k a e N : ℕ) → Lent s k a e → soundGroup N k (groupAt (readState s) k) ≡ true → encodes (take (e - a) (drop a s)) ≡ true
+pub part-encodes : (s : List ℕ) (k a e N : ℕ) → GroupPart s k a e → soundGroup N k (groupAt (readState s) k) ≡ true → encodes (take (e - a) (drop a s)) ≡ true
 part-encodes s k a e N l q = sound-encodes N k (take (e - a) (drop a s)) (ap (soundGroup N k) (l .group) ∙ q)
 
 -- whether the groups from k on are sound

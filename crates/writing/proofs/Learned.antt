@@ -1,161 +1,132 @@
 -- What learning a batch leaves is handed over: run i is read as the learned run. Assumes nothing.
 use mathlib.Core.Path.{_≡_, refl, sym, ap, _∙_, subst}
 use mathlib.Core.List.{List, [], _∷_}
-use mathlib.Core.Bool.{true, true≢false, _&&_}
-use Prim.Native.Nat.{ℕ, zero, suc, _+_, _%_, _≤_, _<_}
+use mathlib.Core.Bool.{true}
+use Prim.Native.Nat.{ℕ, zero, suc, _+_, _*_, _≤_, _<_}
 use native.Mathlib.Omega.{arith}
-use lib.Dec.{ltb, eqb, leb}
+use lib.Dec.{ltb}
 use lib.ListN.{length, getD, take, drop, length-drop}
-use lib.Seq.{ext-getD, getD-drop, getD-take, length-take-le, drop-drop}
+use lib.Seq.{ext-getD, getD-drop, drop-drop}
 use lib.IntN.{pos}
-use borrow.Author.Tests.{ltb-true}
 use Rattle.model.specs.Lists.{all, elem, ascending, store}
-use Rattle.model.specs.Device.{groupOf}
-use Rattle.model.specs.Record.{kindOf, member, Record, Kind, single, accurate, approximate, kind, isApproximate}
-use Rattle.model.specs.Learning.{Run, Bounds, learn}
-use Rattle.model.specs.Sound.{soundRecord, isEmpty, soundAs}
-use Rattle.model.specs.Demand2.{boundsOf}
-use Rattle.model.proofs.Bools.{and-r}
-use Rattle.model.proofs.Lists.{Asc, asc-of, At, elem-at, length-store}
-use Rattle.model.proofs.Parts.{asc-take, asc-drop}
+use Rattle.model.specs.Device.{groupOf, offsetOf}
+use Rattle.model.specs.Record.{kindOf, member, Record}
+use Rattle.model.specs.Learning.{Run, Bounds, ahead, learn}
+use Rattle.model.specs.Sound.{soundRecord}
+use Rattle.model.specs.Demand2.{boundsOf, stride, offsets, singleOf, accurateOf, approximateOf, GreedyRun, single, accurate, approximate, Greedy, run}
+use Rattle.model.proofs.Lists.{asc-of, length-store}
+use Rattle.model.proofs.Parts.{all-below}
+use Rattle.model.proofs.Ahead.{leading, leading-take, leading-elem}
+use Rattle.model.proofs.Run.{kind-even, kind-odd}
 use Rattle.model.proofs.Runs.{Part, Parted}
 use Rattle.model.proofs.Learned.{learn-parted, learn-length, learn-sound, part-members}
-use Rattle.model.proofs.SoundRecord.{record-parts, sound-ascends, owned-member}
-use Rattle.model.proofs.Order.{sound-within}
+use Rattle.model.proofs.GreedyRuns.{learn-greedy}
 use Rattle.record.specs.declared.Record as struct
 use Rattle.record.specs.Read.{asRecord, bare}
-use Rattle.group.proofs.Owned.{asc-same}
 use Rattle.insertion.proofs.ListWrites.{all-at}
 use Rattle.learn.specs.Runs.{records, counts}
 use Rattle.learn.proofs.RunsReadBack.{record-at, count-at}
 use Rattle.state.proofs.Tables.{length-from, getD-from}
-use Rattle.writing.specs.Handed.{place, offsets, offsetsAt, ownedOf, owning, noRecord, learnedAt, runGroup, runAt, runsFrom}
-use Rattle.writing.specs.Taking.{Learned}
-use Rattle.writing.proofs.Offsets.{offset-elem, offsets-asc, offset-below}
+use Rattle.writing.specs.Handed.{firstPlace, offsetsAt, ownedOf, owning, noRecord, learnedAt, runGroup, handedRun, runsFrom, Learned}
 
--- a run, whose pages start at place a
-module _ (w : List ℕ) (b : Bounds) (p a : ℕ) (r : Run) (c : Part b p (drop a w) r) where
-  -- the pages
-  abbrev pages : List ℕ
-  pages = take (r .taken) (drop a w)
+-- a run of the first of the pages l, on the pages from p on
+abbrev FirstRun : Bounds → ℕ → List ℕ → Run → Type 0
+FirstRun b p l r = Part b p l r × GreedyRun b p l (r .learned) (r .taken)
 
-  pages-group : (i : ℕ) → i < length pages → groupOf (getD pages i 0) ≡ r .group
-  pages-group i h =
-      let l : i < r .taken = omega (arith, length-take-le (r .taken) (drop a w) (c .inside)) in
-      ap (λ (x : ℕ). groupOf x) (getD-take (r .taken) (drop a w) i 0 l) ∙ c .grouped i l
+-- the offsets of its pages are the record's members,
+members-are : (b : Bounds) (p : ℕ) (l : List ℕ) (r : Run) → Part b p l r → (o : ℕ) → o < 256 → member (r .learned) o ≡ elem o (offsets (take (r .taken) l))
+members-are b p [] r c o h = absurd (let z : ⊥ = omega (arith, c .filled, c .inside) in z)
+members-are b p (x ∷ l) r c o h =
+    let y : ℕ = 256 * r .group + o in
+    let same : groupOf y ≡ groupOf x = omega (arith, c .grouped 0 (c .filled)) in
+    let e : offsetOf y ≡ o = omega arith in
+    let fits : r .taken ≤ length (offsetOf x ∷ ahead (groupOf x) l) = leading x l .most (r .taken) (record { filled = c .filled; inside = c .inside; grouped = λ i b. c .grouped i b ∙ sym (c .grouped 0 (c .filled)) }) in
+    part-members b p (x ∷ l) r c o h ∙ sym (rw e at (leading-elem (x ∷ l) _ (leading x l) (r .taken) y fits same)) ∙ ap (elem o) (sym (leading-take (x ∷ l) _ (leading x l) (r .taken) fits))
 
-  -- their offsets are the record's members
-  members-are : (o : ℕ) → o < 256 → member (r .learned) o ≡ elem o (offsets w a (r .taken))
-  unfolding offsets
-  members-are o h = part-members b p (drop a w) r c o h ∙ sym (offset-elem (r .group) pages pages-group o h)
-
-  -- and, if it is approximate, those that it owns
-  owned-are : (N : ℕ) → soundRecord N (r .group) (r .learned) ≡ true → Asc 0 w → ownedOf (kind (r .learned)) (offsets w a (r .taken)) ≡ r .learned .owned
-  unfolding offsets ownedOf soundAs isApproximate isEmpty
-  owned-are N s up = go (kind (r .learned)) refl (c .sound)
-    where
-      empty : (l : List ℕ) → isEmpty l ≡ true → [] ≡ l
-      empty [] e = refl
-      empty (x ∷ l) e = absurd (true≢false (sym e))
-
-      all-owned : isApproximate (kind (r .learned)) ≡ true → offsets w a (r .taken) ≡ r .learned .owned
-      all-owned q =
-          asc-same (offsets w a (r .taken)) (r .learned .owned) (offsets-asc (r .group) pages (asc-take (r .taken) (drop a w) (asc-drop a w up)) pages-group)
-          (sound-ascends N (r .group) (r .learned) s)
-          (λ o h. sym (owned-member (r .learned) o q) ∙ members-are o (offset-below pages o h) ∙ h)
-          (λ o h.
-          let m : member (r .learned) o ≡ true = owned-member (r .learned) o q ∙ h in
-          sym (members-are o (omega (arith, sound-within N (r .group) (r .learned) s o m .1, record-parts N (r .group) (r .learned) s .byte))) ∙ m)
-
-      go : (k : Kind) → kind (r .learned) ≡ k → soundAs k (r .learned) ≡ true → ownedOf k (offsets w a (r .taken)) ≡ r .learned .owned
-      go single e h = empty (r .learned .owned) (and-r (eqb (r .learned .span) 0) _ h)
-      go (accurate d) e h = empty (r .learned .owned) (and-r (leb d 255 && eqb (r .learned .span % d) 0) _ h)
-      go (approximate m) e h = all-owned (ap isApproximate e)
-
--- a run is where it is read, on the pages from some page on
-record Found (w taken : List ℕ) (b : Bounds) (r : Run) (j : ℕ) : Type 0 where
-  first : ℕ
-  part : Part b first (drop (place taken j) w) r
-
--- runs that cut the pages into parts, from run i on
-parted-at : (w taken : List ℕ) (b : Bounds) (p a i : ℕ) (rs : List Run) (d : Run) → Parted b p (drop a w) rs → place taken i ≡ a
-    → ((j k : ℕ) → i + j ≡ k → j < length rs → getD taken k 0 ≡ getD rs j d .taken) → (j k : ℕ) → i + j ≡ k → j < length rs → Found w taken b (getD rs j d) k
-unfolding place
-parted-at w taken b p a i [] d c e f j k q h = absurd (let z : ⊥ = omega arith in z)
-parted-at w taken b p a i (r ∷ rs) d c e f zero k q h =
-    let z : a ≡ place taken k = let y : i ≡ k = omega arith in sym e ∙ ap (place taken) y in
-    record { first = p; part = subst (λ (m : ℕ). Part b p (drop m w) r) z (c .0) }
-parted-at w taken b p a i (r ∷ rs) d c e f (suc j) k q h =
-    parted-at w taken b (p + r .taken) (a + r .taken) (suc i) rs d (rw (drop-drop (r .taken) a w) at (c .1)) (omega (arith, e, f 0 i (omega arith) (omega arith)))
-    (λ m n l b. f (suc m) n (omega arith) (omega arith)) j k (omega arith) (omega arith)
+-- and, if it is approximate, those that it owns
+owned-are : (b : Bounds) (p : ℕ) (l : List ℕ) (r : Record) (n : ℕ) → GreedyRun b p l r n → ownedOf (kindOf (r .word)) (offsets (take n l)) ≡ r .owned
+unfolding singleOf accurateOf approximateOf ownedOf kindOf
+owned-are b p l r n (single a m f) = refl
+owned-are b p l r n (accurate k t a m f) = even (stride l)
+  where
+    even : (d : ℕ) → ownedOf (kindOf (2 * d)) (offsets (take n l)) ≡ []
+    even zero = refl
+    even (suc d) = rw (kind-even (suc d) (omega arith))
+owned-are b p l r n (approximate k a I f m q s) = rw (kind-odd a)
 
 noRun : Run
 noRun = record { group = 0; learned = record { start = 0; span = 0; word = 0; intercept = pos 0; owned = [] }; taken = 0 }
+
+-- a run is where run k is read
+record Found (w taken : List ℕ) (b : Bounds) (r : Run) (k : ℕ) : Type 0 where
+  first : ℕ
+  at : FirstRun b first (drop (firstPlace taken k) w) r
+
+-- runs that cut the pages from place a on into parts, the first of them run i
+found-at : (w taken : List ℕ) (b : Bounds) (p a i : ℕ) (l : List ℕ) (rs : List Run) → l ≡ drop a w → Parted b p l rs → Greedy b p l rs → firstPlace taken i ≡ a
+    → ((j k : ℕ) → i + j ≡ k → j < length rs → getD taken k 0 ≡ getD rs j noRun .taken) → (j k : ℕ) → i + j ≡ k → j < length rs → Found w taken b (getD rs j noRun) k
+unfolding firstPlace
+found-at w taken b p a i l [] s c g e f j k q h = absurd (let z : ⊥ = omega arith in z)
+found-at w taken b p a i l (r ∷ rs) s c (run _ x _ _ _ u v g) e f zero k q h =
+    let z : i ≡ k = omega arith in
+    record { first = p; at = subst (λ (m : List ℕ). FirstRun b p m r) (s ∙ ap (λ (m : ℕ). drop m w) (sym e ∙ ap (firstPlace taken) z)) (c .0, v) }
+found-at w taken b p a i l (r ∷ rs) s c (run _ x _ _ _ u v g) e f (suc j) k q h =
+    found-at w taken b (p + r .taken) (a + r .taken) (suc i) _ rs (ap (drop (r .taken)) s ∙ drop-drop (r .taken) a w) (c .1) g (omega (arith, e, f 0 i (omega arith) (omega arith)))
+    (λ m n l b. f (suc m) n (omega arith) (omega arith)) j k (omega arith) (omega arith)
 
 -- A batch that was learned into `out` and `taken`, which held anything before.
 module _ (N g p : ℕ) (w : List ℕ) (up : ascending w ≡ true) (below : all (λ x. ltb x N) w ≡ true)
     (o₀ : List struct.Record) (t₀ : List ℕ) (room : length w ≤ length o₀) (places : length w ≤ length t₀)
     (out : List struct.Record) (taken : List ℕ) (stored : out ≡ store o₀ 0 (records (learn g p w))) (counted : taken ≡ store t₀ 0 (counts (learn g p w)))
     (n : ℕ) (size : n ≡ length (learn g p w)) where
-  -- the runs
-  abbrev rs : List Run
-  rs = learn g p w
+  abbrev learnt : ℕ → Run
+  learnt j = getD (learn g p w) j noRun
 
-  abbrev run : ℕ → Run
-  run j = getD rs j noRun
-
-  few : length rs ≤ length w
-  few = learn-length g p w
+  few : n ≤ length w
+  few = omega (arith, size, learn-length g p w)
 
   -- what is read of run j is its own: how many pages, record, group
-  count-is : (j : ℕ) → j < length rs → getD taken j 0 ≡ run j .taken
-  count-is j h = ap (λ (l : List ℕ). getD l j 0) counted ∙ count-at t₀ rs j noRun h (omega (arith, few))
+  module _ (j : ℕ) (h : j < n) where
+    count-is : getD taken j 0 ≡ learnt j .taken
+    count-is = ap (λ (l : List ℕ). getD l j 0) counted ∙ count-at t₀ (learn g p w) j noRun (omega arith) (omega (arith, few))
 
-  found : (j : ℕ) → j < length rs → Found w taken (boundsOf g p w) (run j) j
-  unfolding place
+    sound-is : soundRecord N (learnt j .group) (learnt j .learned) ≡ true
+    sound-is = all-at (λ (r : Run). soundRecord N (r .group) (r .learned)) (learn g p w) j noRun (omega arith) (learn-sound N g p w (asc-of w up) (all-below N w below))
+
+  found : (j : ℕ) → j < n → Found w taken (boundsOf g p w) (learnt j) j
+  unfolding firstPlace
   found j h =
-      parted-at w taken (boundsOf g p w) p 0 0 rs noRun (learn-parted g p w (asc-of w up)) refl
-      (λ m k q l. let z : m ≡ k = omega arith in ap (λ (x : ℕ). getD taken x 0) (sym z) ∙ count-is m l) j j (omega arith) h
+      found-at w taken (boundsOf g p w) p 0 0 w (learn g p w) refl (learn-parted g p w (asc-of w up)) (learn-greedy g p w (asc-of w up)) refl
+      (λ m k q l. let z : m ≡ k = omega arith in ap (λ (x : ℕ). getD taken x 0) (sym z) ∙ count-is m (omega (arith, l))) j j (omega arith) (omega arith)
 
-  sound-is : (j : ℕ) → j < length rs → soundRecord N (run j .group) (run j .learned) ≡ true
-  sound-is j h =
-      all-at (λ (r : Run). soundRecord N (r .group) (r .learned)) rs j noRun h
-      (learn-sound N g p w (asc-of w up) (λ x e.
-      let a : At x w = elem-at x w e in
-      omega (arith, ltb-true (getD w (a .index) 0) N (all-at (λ x. ltb x N) w (a .index) 0 (a .inside) below), a .here)))
+  module _ (j : ℕ) (h : j < n) where
+    learned-is : learnedAt w out taken j ≡ learnt j .learned
+    unfolding owning
+    learned-is =
+        ap (λ (x : struct.Record). asRecord x (ownedOf (kindOf (x .word)) (offsetsAt w taken j)))
+        (ap (λ (l : List struct.Record). getD l j noRecord) stored ∙ record-at o₀ (learn g p w) j noRun noRecord (omega arith) (omega (arith, few)))
+        ∙ ap (λ (os : List ℕ). asRecord (bare (learnt j .learned)) os) (rw (count-is j h) (owned-are (boundsOf g p w) (found j h .first) _ (learnt j .learned) (learnt j .taken) (found j h .at .1)))
 
-  learned-is : (j : ℕ) → j < length rs → learnedAt w out taken j ≡ run j .learned
-  unfolding owning
-  learned-is j h =
-      ap (λ (x : struct.Record). asRecord x (ownedOf (kindOf (x .word)) (offsetsAt w taken j)))
-      (ap (λ (l : List struct.Record). getD l j noRecord) stored ∙ record-at o₀ rs j noRun noRecord h (omega (arith, few)))
-      ∙ ap (λ (m : ℕ). asRecord (bare (run j .learned)) (ownedOf (kind (run j .learned)) (offsets w (place taken j) m))) (count-is j h)
-      ∙ ap (λ (os : List ℕ). asRecord (bare (run j .learned)) os) (owned-are w (boundsOf g p w) (found j h .first) (place taken j) (run j) (found j h .part) N (sound-is j h) (asc-of w up))
-
-  group-is : (j : ℕ) → j < length rs → runGroup w taken j ≡ run j .group
-  unfolding runGroup
-  group-is j h =
-      let z : place taken j + 0 ≡ place taken j = omega arith in
-      ap (λ (x : ℕ). groupOf x) (sym (rw z at (getD-drop (place taken j) w 0 0))) ∙ found j h .part .grouped 0 (omega (arith, found j h .part .filled))
-
-  run-is : (j : ℕ) → j < length rs → runAt w out taken j ≡ run j
-  unfolding runAt
-  run-is j h = rw (group-is j h, learned-is j h, count-is j h) refl
+    group-is : runGroup w taken j ≡ learnt j .group
+    unfolding runGroup
+    group-is =
+        let z : firstPlace taken j + 0 ≡ firstPlace taken j = omega arith in
+        ap (λ (x : ℕ). groupOf x) (sym (rw z at (getD-drop (firstPlace taken j) w 0 0))) ∙ found j h .at .0 .grouped 0 (omega (arith, found j h .at .0 .filled))
 
   -- The runs that are read are those learned.
   pub runs-are : runsFrom w out taken 0 n ≡ learn g p w
-  unfolding runsFrom
+  unfolding runsFrom handedRun
   runs-are =
-      ext-getD noRun _ _ (length-from (runAt w out taken) 0 n ∙ size) (λ i h.
-      let l : i < n = omega (arith, length-from (runAt w out taken) 0 n) in
-      getD-from (runAt w out taken) n i noRun l ∙ run-is i (omega arith))
+      ext-getD noRun _ _ (length-from (handedRun w out taken) 0 n ∙ size) (λ i h.
+      let l : i < n = omega (arith, length-from (handedRun w out taken) 0 n) in
+      getD-from (handedRun w out taken) n i noRun l ∙ rw (group-is i l, learned-is i l, count-is i l) refl)
 
-  place-inside : (m : ℕ) → m ≤ length rs → place taken m ≤ length w
-  unfolding place
+  place-inside : (m : ℕ) → m ≤ n → firstPlace taken m ≤ length w
+  unfolding firstPlace
   place-inside zero h = omega arith
   place-inside (suc m) h =
-      let c = found m (omega arith) .part in
-      omega (arith, count-is m (omega arith), c .filled, c .inside, length-drop (place taken m) w)
+      let c = found m (omega arith) .at .0 in
+      omega (arith, count-is m (omega arith), c .filled, c .inside, length-drop (firstPlace taken m) w)
 
   -- They are handed over, and their records are sound.
   pub handed-over : length w ≤ 256 → Learned N w out taken n
@@ -165,16 +136,12 @@ module _ (N g p : ℕ) (w : List ℕ) (up : ascending w ≡ true) (below : all (
       below = below;
       few = omega (arith, few);
       counted = record {
-        counts = omega (arith, ap (λ (l : List ℕ). length l) counted, length-store t₀ 0 (counts rs), few);
-        filled = λ i l. omega (arith, count-is i (omega arith), found i (omega arith) .part .filled);
+        counts = omega (arith, ap (λ (l : List ℕ). length l) counted, length-store t₀ 0 (counts (learn g p w)), few);
+        filled = λ i l. omega (arith, count-is i l, found i l .at .0 .filled);
         pages = place-inside n (omega arith);
       };
     };
-    records = omega (arith, ap (λ (l : List struct.Record). length l) stored, length-store o₀ 0 (records rs), few);
-    members = λ i l o lt.
-        let b : i < length rs = omega arith in
-        ap (λ (x : Record). member x o) (learned-is i b)
-        ∙ members-are w (boundsOf g p w) (found i b .first) (place taken i) (run i) (found i b .part) o lt
-        ∙ ap (λ (m : ℕ). elem o (offsets w (place taken i) m)) (sym (count-is i b));
-    sound = λ i l. let b : i < length rs = omega arith in rw (group-is i b, learned-is i b) (sound-is i b);
+    records = omega (arith, ap (λ (l : List struct.Record). length l) stored, length-store o₀ 0 (records (learn g p w)), few);
+    members = λ i l o lt. rw (learned-is i l, count-is i l) (members-are (boundsOf g p w) (found i l .first) _ (learnt i) (found i l .at .0) o lt);
+    sound = λ i l. rw (group-is i l, learned-is i l) (sound-is i l);
   }

@@ -3,31 +3,34 @@
 -- from place i of `out` and of `taken`, and these pages, behind those of the runs before it, from the batch. Assumes nothing.
 use mathlib.Core.Path.{_≡_}
 use mathlib.Core.Bool.{true, false}
-use mathlib.Core.List.{List, [], map}
-use Prim.Native.Nat.{ℕ, zero, suc, _+_, _≤_, _<_}
+use mathlib.Core.List.{List, []}
+use Prim.Native.Nat.{ℕ, zero, suc, _+_, _-_, _≤_, _<_}
 use lib.Dec.{ltb, eqb}
 use lib.IntN.{pos}
 use lib.ListN.{length, getD, take, drop}
 use Rattle.model.specs.Lists.{all, elem, ascending}
-use Rattle.model.specs.Device.{groupOf, offsetOf}
+use Rattle.model.specs.Device.{groupOf}
 use Rattle.model.specs.Record.{Record, Kind, single, accurate, approximate, kindOf, member}
 use Rattle.model.specs.Learning.{Run}
+use Rattle.model.specs.Sound.{soundRecord}
+use Rattle.model.specs.Demand2.{offsets}
 use Rattle.record.specs.declared.Record as struct
 use Rattle.record.specs.Read.{asRecord}
 use Rattle.state.specs.Regions.{listFrom}
+use Rattle.writing.specs.declared.Place.{Place}
 
 -- the place in the batch of run i's first page
-unfoldable pub place : List ℕ → ℕ → ℕ
-place taken zero = 0
-place taken (suc i) = place taken i + getD taken i 0
+unfoldable pub firstPlace : List ℕ → ℕ → ℕ
+firstPlace taken zero = 0
+firstPlace taken (suc i) = firstPlace taken i + getD taken i 0
 
 -- the offsets of n pages of the batch, from place a on
-unfoldable pub offsets : List ℕ → ℕ → ℕ → List ℕ
-offsets w a n = map (λ x. offsetOf x) (take n (drop a w))
+abbrev pub offsetsFrom : List ℕ → ℕ → ℕ → List ℕ
+offsetsFrom w a n = offsets (take n (drop a w))
 
 -- the offsets of run i's pages
 abbrev pub offsetsAt : List ℕ → List ℕ → ℕ → List ℕ
-offsetsAt w taken i = offsets w (place taken i) (getD taken i 0)
+offsetsAt w taken i = offsetsFrom w (firstPlace taken i) (getD taken i 0)
 
 -- "an approximate record owns the offsets of its run"; any other owns none
 unfoldable pub ownedOf : Kind → List ℕ → List ℕ
@@ -37,7 +40,7 @@ ownedOf (approximate a) os = os
 
 -- the group that run i lies in
 unfoldable pub runGroup : List ℕ → List ℕ → ℕ → ℕ
-runGroup w taken i = groupOf (getD w (place taken i) 0)
+runGroup w taken i = groupOf (getD w (firstPlace taken i) 0)
 
 -- run i's record, of which r has the four numbers
 unfoldable pub owning : List ℕ → List ℕ → ℕ → struct.Record → Record
@@ -51,23 +54,32 @@ abbrev pub learnedAt : List ℕ → List struct.Record → List ℕ → ℕ → 
 learnedAt w out taken i = owning w taken i (getD out i noRecord)
 
 -- run i
-unfoldable pub runAt : List ℕ → List struct.Record → List ℕ → ℕ → Run
-runAt w out taken i = record { group = runGroup w taken i; learned = learnedAt w out taken i; taken = getD taken i 0 }
+unfoldable pub handedRun : List ℕ → List struct.Record → List ℕ → ℕ → Run
+handedRun w out taken i = record { group = runGroup w taken i; learned = learnedAt w out taken i; taken = getD taken i 0 }
 
 -- the n runs from run i on
 unfoldable pub runsFrom : List ℕ → List struct.Record → List ℕ → ℕ → ℕ → List Run
-runsFrom w out taken i n = listFrom (runAt w out taken) i n
+runsFrom w out taken i n = listFrom (handedRun w out taken) i n
 
--- how many of them lie in group k
-unfoldable pub runsIn : List ℕ → List ℕ → ℕ → ℕ → ℕ → ℕ
-runsIn w taken k i zero = 0
-runsIn w taken k i (suc n) = elim (eqb (runGroup w taken i) k) [ true ↦ suc (runsIn w taken k (suc i) n) | false ↦ runsIn w taken k (suc i) n ]
+-- of m runs from run i on, the first that doesn't lie in group k; if all do, the one behind them
+unfoldable pub endFrom : List ℕ → List ℕ → ℕ → ℕ → ℕ → ℕ
+endFrom w taken k i zero = i
+endFrom w taken k i (suc m) = elim (eqb (runGroup w taken i) k) [ true ↦ endFrom w taken k (suc i) m | false ↦ i ]
+
+-- where the runs of run i's group end, of n runs in all
+unfoldable pub runsEnd : List ℕ → List ℕ → ℕ → ℕ → ℕ
+runsEnd w taken n i = endFrom w taken (runGroup w taken i) i (n - i)
 
 -- the pages of the first n runs are there, one at least for each
 pub record Counted (w taken : List ℕ) (n : ℕ) : Type 0 where
   pub counts : n ≤ length taken
   pub filled : (i : ℕ) → i < n → 1 ≤ getD taken i 0
-  pub pages : place taken n ≤ length w
+  pub pages : firstPlace taken n ≤ length w
+
+-- a place, of n runs in all, has its run's first page, and where its group's runs end if it knows that
+pub record Located (w taken : List ℕ) (n : ℕ) (p : Place) : Type 0 where
+  pub page : p .page ≡ firstPlace taken (p .run)
+  pub end : p .run < p .end → p .end ≡ runsEnd w taken n (p .run)
 
 -- the offsets of run i's pages are the members of its record
 abbrev pub Members : List ℕ → List ℕ → ℕ → struct.Record → Type 0
@@ -80,13 +92,9 @@ pub record Sorted (N : ℕ) (w taken : List ℕ) (n : ℕ) : Type 0 where
   pub few : n ≤ 256
   pub counted : Counted w taken n
 
--- the runs from run i to j, j not included, of n runs in all, lie in group k
-pub record Own (w taken : List ℕ) (n k i j : ℕ) : Type 0 where
-  pub from : i ≤ j
-  pub to : j ≤ n
-  pub inside : (m : ℕ) → i ≤ m → m < j → runGroup w taken m ≡ k
-
--- and run j, if there is one, doesn't
-pub record Ends (w taken : List ℕ) (n k i j : ℕ) : Type 0 where
-  pub own : Own w taken n k i j
-  pub other : j < n → runGroup w taken j ≡ k → ⊥
+-- n runs are handed over: each one's record has the offsets of its pages for members, and is sound in the run's group
+pub record Learned (N : ℕ) (w : List ℕ) (out : List struct.Record) (taken : List ℕ) (n : ℕ) : Type 0 where
+  pub sorted : Sorted N w taken n
+  pub records : n ≤ length out
+  pub members : (i : ℕ) → i < n → Members w taken i (getD out i noRecord)
+  pub sound : (i : ℕ) → i < n → soundRecord N (runGroup w taken i) (learnedAt w out taken i) ≡ true

@@ -4,14 +4,14 @@ use mathlib.Core.Path.{ap, _∙_}
 use mathlib.Core.List.{List}
 use Prim.Native.Nat.{ℕ}
 use Rattle.model.specs.Lists.{store}
-use Rattle.state.proofs.Handing.{Lent, lent}
+use Rattle.state.proofs.Handing.{GroupPart, lent}
 use Rattle.lookup.proofs.Listing.{part-room, part-count, part-listed}
 use borrow.Author.Needs.{needs}
 use Rattle.lookup.proofs.list.list_group.Statement.{statement}
 use Rattle.lookup.proofs.list.list_group.Tie as tie
 
 -- the part is group k's
-part : (c : tie.After-group-end) → Lent (c .before .before .before .before .args .state .now) (c .before .before .before .before .args .k) (c .before .group-place .result) (c .group-end .result)
+part : (c : tie.After-group-end) → GroupPart (c .before .before .before .before .args .state .now) (c .before .before .before .before .args .k) (c .before .group-place .result) (c .group-end .result)
 part c = lent _ _ (c .before .before .before .before .pre .0) _ _ _ (c .before .before .before .before .pre .1) (c .before .group-place .ensures) (c .group-end .ensures)
 
 part-list-slots-end : tie.Need-part-list-slots-end

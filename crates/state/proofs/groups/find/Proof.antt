@@ -4,13 +4,13 @@ use mathlib.Core.Path.{ap, _∙_}
 use mathlib.Core.Option.{Option·map}
 use Rattle.model.specs.Levels.{Group, listing, holder, levelsTo}
 use Rattle.record.specs.Read.{bare}
-use Rattle.state.proofs.Handing.{Lent, lent, part-encodes}
+use Rattle.state.proofs.Handing.{GroupPart, lent, part-encodes}
 use borrow.Author.Needs.{needs}
 use Rattle.state.proofs.groups.find.Statement.{statement}
 use Rattle.state.proofs.groups.find.Tie as tie
 
 -- the part is group k's
-part : (c : tie.After-group-end) → Lent (c .before .before .before .args .state .now) (c .before .before .before .args .k) (c .before .group-place .result) (c .group-end .result)
+part : (c : tie.After-group-end) → GroupPart (c .before .before .before .args .state .now) (c .before .before .before .args .k) (c .before .group-place .result) (c .group-end .result)
 part c = lent _ _ (c .before .before .before .pre .0) _ _ _ (c .before .before .before .pre .1) (c .before .group-place .ensures) (c .group-end .ensures)
 
 part-find-end : tie.Need-part-find-end

@@ -3,13 +3,13 @@ use native.Mathlib.Omega.{arith}
 use mathlib.Core.Path.{ap, _∙_}
 use Rattle.model.specs.Sound.{soundGroup}
 use Rattle.state.proofs.Places.{small}
-use Rattle.state.proofs.Handing.{Lent, lent}
+use Rattle.state.proofs.Handing.{GroupPart, lent}
 use borrow.Author.Needs.{needs}
 use Rattle.state.proofs.groups.group_sound.Statement.{statement}
 use Rattle.state.proofs.groups.group_sound.Tie as tie
 
 -- the part is group k's
-part : (c : tie.After-group-end) → Lent (c .before .before .before .args .state .now) (c .before .before .before .args .k) (c .before .group-place .result) (c .group-end .result)
+part : (c : tie.After-group-end) → GroupPart (c .before .before .before .args .state .now) (c .before .before .before .args .k) (c .before .group-place .result) (c .group-end .result)
 part c = lent _ _ (c .before .before .before .pre .0) _ _ _ (c .before .before .before .pre .1) (c .before .group-place .ensures) (c .group-end .ensures)
 
 part-sound-end : tie.Need-part-sound-end

@@ -1,13 +1,13 @@
 -- The part is group k; the law of a sound group's part compacted, and the bytes outside the part stay.
 use native.Mathlib.Omega.{arith}
-use Rattle.state.proofs.Handing.{Lent, lent, part-outside}
+use Rattle.state.proofs.Handing.{GroupPart, lent, part-outside}
 use Rattle.upkeep.proofs.Compacting.{part-tidy, part-compacted, records-left}
 use borrow.Author.Needs.{needs}
 use Rattle.upkeep.proofs.compact.compact_group.Statement.{statement}
 use Rattle.upkeep.proofs.compact.compact_group.Tie as tie
 
 -- the part is group k's
-part : (c : tie.After-group-end) → Lent (c .before .before .before .args .state .now) (c .before .before .before .args .k) (c .before .group-place .result) (c .group-end .result)
+part : (c : tie.After-group-end) → GroupPart (c .before .before .before .args .state .now) (c .before .before .before .args .k) (c .before .group-place .result) (c .group-end .result)
 part c = lent _ _ (c .before .before .before .pre .0) _ _ _ (c .before .before .before .pre .1) (c .before .group-place .ensures) (c .group-end .ensures)
 
 part-compact-end : tie.Need-part-compact-end
