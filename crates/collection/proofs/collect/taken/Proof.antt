@@ -15,14 +15,23 @@ use Rattle.collection.proofs.Gathering.{front}
 use Rattle.collection.proofs.collect.taken.Statement.{statement}
 use Rattle.collection.proofs.collect.taken.Tie as tie
 
+abbrev start : tie.After-tally-all → tie.Start
+start c = c .before .before .before .before .before .before
+
+abbrev after-tally-all : tie.After-slice-known2 → tie.After-tally-all
+after-tally-all c = c .before .before .before .before .before .before
+
+abbrev start′ : tie.After-slice-known2 → tie.Start
+start′ c = after-tally-all c .before .before .before .before .before .before
+
 tally-all-requires : tie.Need-tally-all-requires
 tally-all-requires c κs = (c .before .before .before .before .before .pre .0, limits _ (c .before .before .before .before .before .pre .0 .shape .limits) .most-M)
 
 -- the array has room for every block
-room : (c : tie.After-tally-all) → c .before .before .before .before .before .before .args .d .m ≤ length (c .tally-all .last .1 .1 .1 .0)
-room c = omega (arith, c .tally-all .kept .1 .1 .1 .0, limits _ (c .before .before .before .before .before .before .pre .0 .shape .limits) .most-M)
+room : (c : tie.After-tally-all) → start c .args .d .m ≤ length (c .tally-all .last .1 .1 .1 .0)
+room c = omega (arith, c .tally-all .kept .1 .1 .1 .0, limits _ (start c .pre .0 .shape .limits) .most-M)
 
-counted : (c : tie.After-tally-all) → length (take (c .before .before .before .before .before .before .args .d .m) (c .tally-all .last .1 .1 .1 .0)) ≡ c .before .before .before .before .before .before .args .d .m
+counted : (c : tie.After-tally-all) → length (take (start c .args .d .m) (c .tally-all .last .1 .1 .1 .0)) ≡ start c .args .d .m
 counted c = length-take-le _ _ (room c)
 
 array-share-prefix-tally : tie.Need-array-share-prefix-tally
@@ -33,21 +42,21 @@ slice-aggregate-choose c = sym (counted (c .before .before))
 
 choose-requires : tie.Need-choose-requires
 choose-requires c κs =
-    let most = limits _ (c .before .before .before .before .before .before .before .before .before .pre .0 .shape .limits) in
-    (omega (arith, counted (c .before .before .before), most .most-M), omega (arith, counted (c .before .before .before), most .most-M, c .before .before .before .before .before .before .before .before .before .pre .1), most .most-B)
+    let most = limits _ (start (c .before .before .before) .pre .0 .shape .limits) in
+    (omega (arith, counted (c .before .before .before), most .most-M), omega (arith, counted (c .before .before .before), most .most-M, start (c .before .before .before) .pre .1), most .most-B)
 
 -- the front is the tally
-tallied : (c : tie.After-tally-all) → take (c .before .before .before .before .before .before .args .d .m) (c .tally-all .last .1 .1 .1 .0) ≡ tallyOf (readState (c .before .before .before .before .before .before .args .state .now)) (c .before .before .before .before .before .before .args .spare .now)
+tallied : (c : tie.After-tally-all) → take (start c .args .d .m) (c .tally-all .last .1 .1 .1 .0) ≡ tallyOf (readState (start c .args .state .now)) (start c .args .spare .now)
 tallied c =
-    let shape = c .before .before .before .before .before .before .pre .0 .shape in
-    let size = length-tally (readState (c .before .before .before .before .before .before .args .state .now)) (c .before .before .before .before .before .before .args .spare .now) ∙ length-counts _ _ shape in
+    let shape = start c .pre .0 .shape in
+    let size = length-tally (readState (start c .args .state .now)) (start c .args .spare .now) ∙ length-counts _ _ shape in
     front _ _ _ _ (c .tally-all .ensures) (sym size) (omega (arith, size, limits _ (shape .limits) .most-M))
 
 returns : tie.Need-returns
 returns c =
-    let numbers = ap (λ (e : Device). e .B) (c .before .before .before .before .before .before .before .before .before .before .before .before .pre .0 .shape .numbers) in
+    let numbers = ap (λ (e : Device). e .B) (start′ c .pre .0 .shape .numbers) in
     let made = c .before .before .choose .ensures in
-    (made .0 _ _ (tallied (c .before .before .before .before .before .before)) numbers, made .1 _ _ (tallied (c .before .before .before .before .before .before)) numbers)
+    (made .0 _ _ (tallied (after-tally-all c)) numbers, made .1 _ _ (tallied (after-tally-all c)) numbers)
 
 pub taken-spec : {M : Type 1} → statement M
 taken-spec = tie.close (tie.spec (λ c. search needs) (λ c. search needs) tally-all-requires array-share-prefix-tally

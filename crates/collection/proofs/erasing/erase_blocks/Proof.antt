@@ -21,23 +21,29 @@ Inv-loop state₀ spare₀ d blocks i₀ state spare i =
 abbrev μ-loop : tie.MeasureT-loop
 μ-loop state₀ spare₀ d blocks i₀ state spare i = length blocks - i
 
+abbrev start : tie.After-shared-slice-known2 Inv-loop μ-loop → tie.Start Inv-loop μ-loop
+start c = c .before .before .before .before .before .before .before .before
+
+abbrev in-loop : tie.After-slice-known4 Inv-loop μ-loop → tie.In-loop Inv-loop μ-loop
+in-loop c = c .before .before .before .before .before .before .before .before
+
 loop-holds : tie.Need-loop-holds Inv-loop μ-loop
 loop-holds c = (omega arith, refl, refl, c .before .before .before .pre .0, λ plan erased. refl)
 
 erase-block-requires : tie.Need-erase-block-requires Inv-loop μ-loop
 erase-block-requires c κs =
     let inv = c .before .before .before .before .loop .inv in
-    (inv .3, inv .2 ∙ c .before .before .before .before .before .before .before .before .pre .1, ltb-true _ _ (all-getD (λ k. ltb k (c .before .before .before .before .before .before .before .before .args .d .m)) _ _ (c .before .before .before .before .before .before .before .before .pre .2) (omega arith)))
+    (inv .3, inv .2 ∙ start c .pre .1, ltb-true _ _ (all-getD (λ k. ltb k (start c .args .d .m)) _ _ (start c .pre .2) (omega arith)))
 
 loop-again : tie.Need-loop-again Inv-loop μ-loop
 loop-again c =
-    let inv = c .before .before .before .before .before .before .before .before .before .loop .inv in
+    let inv = in-loop c .before .loop .inv in
     let made = c .before .before .before .before .erase-block in (
       omega arith,
       omega (arith, made .kept .0),
       omega (arith, made .kept .1 .0),
       erased-shape _ _ _ _ _ _ (inv .3) (made .ensures),
-      cleared-next _ _ _ _ _ _ (inv .4) (c .before .before .before .before .before .before .before .before .loop-test .taken) _ _ (made .ensures),
+      cleared-next _ _ _ _ _ _ (inv .4) (in-loop c .loop-test .taken) _ _ (made .ensures),
     )
 
 returns : tie.Need-returns Inv-loop μ-loop

@@ -29,34 +29,41 @@ Inv-loop state spare d blocks pages₀ sources₀ n₀ i₀ pages sources n i =
 abbrev μ-loop : tie.MeasureT-loop
 μ-loop state spare d blocks pages₀ sources₀ n₀ i₀ pages sources n i = length blocks - i
 
+abbrev in-loop : tie.After-slice-known4 Inv-loop μ-loop → tie.In-loop Inv-loop μ-loop
+in-loop c = c .before .before .before .before .before .before .before .before
+
+abbrev start : tie.After-gather-block-arg2 Inv-loop μ-loop → tie.Start Inv-loop μ-loop
+start c = c .before .before .before .before .before .before .before .before .before .before
+
+abbrev start′ : tie.After-slice-known4 Inv-loop μ-loop → tie.Start Inv-loop μ-loop
+start′ c = in-loop c .before .before .before .before .before .before .before
+
 loop-holds : tie.Need-loop-holds Inv-loop μ-loop
 loop-holds c = (omega arith, refl, refl, sym (zero-add _), refl, refl)
 
 gather-block-requires : tie.Need-gather-block-requires Inv-loop μ-loop
 gather-block-requires c κs =
-    let start = c .before .before .before .before .before .before .before .before .before .before in
     let at-loop = c .before .before .before .before .loop in
     let inside = c .before .before .before .loop-test .taken in
-    let part = gathered-count (readState (start .args .state .now)) (start .args .spare .now) (start .args .blocks .now) (at-loop .i) inside in (
-      start .pre .0,
-      ltb-true _ _ (all-getD (λ k. ltb k (start .args .d .m)) _ _ (start .pre .1) inside),
-      omega (arith, part, at-loop .inv .3, at-loop .inv .1, start .pre .2),
-      omega (arith, part, at-loop .inv .3, at-loop .inv .2, start .pre .3),
+    let part = gathered-count (readState (start c .args .state .now)) (start c .args .spare .now) (start c .args .blocks .now) (at-loop .i) inside in (
+      start c .pre .0,
+      ltb-true _ _ (all-getD (λ k. ltb k (start c .args .d .m)) _ _ (start c .pre .1) inside),
+      omega (arith, part, at-loop .inv .3, at-loop .inv .1, start c .pre .2),
+      omega (arith, part, at-loop .inv .3, at-loop .inv .2, start c .pre .3),
     )
 
 loop-again : tie.Need-loop-again Inv-loop μ-loop
 loop-again c =
-    let start = c .before .before .before .before .before .before .before .before .before .before .before .before .before .before .before in
-    let at-loop = c .before .before .before .before .before .before .before .before .before .loop in
-    let inside = c .before .before .before .before .before .before .before .before .loop-test .taken in
-    let part = gathered-count (readState (start .args .state .now)) (start .args .spare .now) (start .args .blocks .now) (at-loop .i) inside in
+    let at-loop = in-loop c .before .loop in
+    let inside = in-loop c .loop-test .taken in
+    let part = gathered-count (readState (start′ c .args .state .now)) (start′ c .args .spare .now) (start′ c .args .blocks .now) (at-loop .i) inside in
     let kept = c .before .before .before .before .gather-block .kept in
     let made = c .before .before .before .before .gather-block .ensures in (
       omega arith,
       omega (arith, kept .1 .1 .1 .1 .0),
       omega (arith, kept .1 .1 .1 .1 .1 .0),
       omega (arith, part, at-loop .inv .3, made .0),
-      stored-part _ _ _ _ _ _ _ _ (at-loop .inv .4) (named-part _ _ _ _ inside _) (made .1 .0) (named-count (numbersOf (start .args .d)) (start .args .spare .now) _ _ (usedBlock (readState (start .args .state .now)) (start .args .spare .now) (getD (start .args .blocks .now) (at-loop .i) 0) .pages) (made .0)),
+      stored-part _ _ _ _ _ _ _ _ (at-loop .inv .4) (named-part _ _ _ _ inside _) (made .1 .0) (named-count (numbersOf (start′ c .args .d)) (start′ c .args .spare .now) _ _ (usedBlock (readState (start′ c .args .state .now)) (start′ c .args .spare .now) (getD (start′ c .args .blocks .now) (at-loop .i) 0) .pages) (made .0)),
       stored-part _ _ _ _ _ _ _ _ (at-loop .inv .5) (gathered-next _ _ _ _ inside) (made .1 .1) (made .0),
     )
 

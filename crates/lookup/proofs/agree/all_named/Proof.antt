@@ -20,6 +20,9 @@ Inv-loop state spare d n x₀ x = (eachBelow x (λ y. isNamed (seek (readState s
 abbrev μ-loop : tie.MeasureT-loop
 μ-loop state spare d n x₀ x = d .n - x
 
+abbrev start : tie.Then1 Inv-loop μ-loop → tie.Start Inv-loop μ-loop
+start c = c .before .before .before .before .before .before .before
+
 loop-holds : tie.Need-loop-holds Inv-loop μ-loop
 unfolding eachBelow
 loop-holds c = (refl, omega arith)
@@ -31,7 +34,7 @@ is-named-requires : tie.Need-is-named-requires Inv-loop μ-loop
 is-named-requires c κs = tt
 
 returns : tie.Need-returns Inv-loop μ-loop
-returns c = sym (page-unnamed _ _ _ (c .before .before .before .before .before .before .before .pre) _ (omega (arith, c .before .before .before .loop-test .taken)) (sym (c .before .is-named .ensures ∙ ap isNamed (looked-is _ _ (c .before .before .seek .ensures))) ∙ not-true (c .before .is-named .result) (c .if1 .taken)))
+returns c = sym (page-unnamed _ _ _ (start c .pre) _ (omega (arith, c .before .before .before .loop-test .taken)) (sym (c .before .is-named .ensures ∙ ap isNamed (looked-is _ _ (c .before .before .seek .ensures))) ∙ not-true (c .before .is-named .result) (c .if1 .taken)))
 
 add-x : tie.Need-add-x Inv-loop μ-loop
 add-x c = omega (arith, small _ (c .before .before .before .before .before .before .before .pre .shape .limits) .pages)

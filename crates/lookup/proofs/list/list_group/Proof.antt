@@ -10,6 +10,9 @@ use borrow.Author.Needs.{needs}
 use Rattle.lookup.proofs.list.list_group.Statement.{statement}
 use Rattle.lookup.proofs.list.list_group.Tie as tie
 
+abbrev start : tie.After-list-slots-arg2 → tie.Start
+start c = c .before .before .before .before .before .before
+
 -- the part is group k's
 part : (c : tie.After-group-end) → GroupPart (c .before .before .before .before .args .state .now) (c .before .before .before .before .args .k) (c .before .group-place .result) (c .group-end .result)
 part c = lent _ _ (c .before .before .before .before .pre .0) _ _ _ (c .before .before .before .before .pre .1) (c .before .group-place .ensures) (c .group-end .ensures)
@@ -18,13 +21,13 @@ part-list-slots-end : tie.Need-part-list-slots-end
 part-list-slots-end c = omega (arith, part c .inside)
 
 list-slots-requires : tie.Need-list-slots-requires
-list-slots-requires c κs = (part-room _ _ _ _ _ (part (c .before .before)) (c .before .before .before .before .before .before .pre .2), c .before .before .before .before .before .before .pre .3)
+list-slots-requires c κs = (part-room _ _ _ _ _ (part (c .before .before)) (start c .pre .2), start c .pre .3)
 
 returns : tie.Need-returns
 returns c =
     let l = part (c .before .before .before .before .before) in
-    let sound = c .before .before .before .before .before .before .before .before .before .pre .2 in
-    (c .before .before .list-slots .ensures .0 ∙ part-count _ _ _ _ _ l sound, c .before .before .list-slots .ensures .1 ∙ ap (λ (v : List ℕ). store (c .before .before .before .before .before .before .before .before .before .args .out .now) 0 v) (part-listed _ _ _ _ _ l sound))
+    let sound = start (c .before .before .before) .pre .2 in
+    (c .before .before .list-slots .ensures .0 ∙ part-count _ _ _ _ _ l sound, c .before .before .list-slots .ensures .1 ∙ ap (λ (v : List ℕ). store (start (c .before .before .before) .args .out .now) 0 v) (part-listed _ _ _ _ _ l sound))
 
 pub list-group-spec : {M : Type 1} → statement M
 list-group-spec = tie.close (tie.spec (λ c κs. search needs) (λ c κs. search needs) (λ c. search needs)

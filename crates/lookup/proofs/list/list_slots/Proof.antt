@@ -15,6 +15,12 @@ Inv-loop b out₀ n i₀ out i = (i ≤ n) × (length out ≡ length out₀) × 
 abbrev μ-loop : tie.MeasureT-loop
 μ-loop b out₀ n i₀ out i = n - i
 
+abbrev at-loop : tie.After-slice-known2 Inv-loop μ-loop → tie.At-loop Inv-loop μ-loop
+at-loop c = c .before .before .before .before .before .before
+
+abbrev start : tie.After-put-slot-arg Inv-loop μ-loop → tie.Start Inv-loop μ-loop
+start c = c .before .before .before .before .before .before .before
+
 used-requires : tie.Need-used-requires Inv-loop μ-loop
 used-requires c κs = c .before .before .pre .0 .0
 
@@ -26,7 +32,7 @@ get-requires : tie.Need-get-requires Inv-loop μ-loop
 get-requires c κs = (c .before .before .before .before .before .pre .0, omega (arith, c .loop-test .taken, c .before .before .used .ensures .1))
 
 put-slot-requires : tie.Need-put-slot-requires Inv-loop μ-loop
-put-slot-requires c κs = (omega (arith, c .before .before .before .loop .inv .1, c .before .before .before .before .before .before .before .pre .1), omega (arith, c .before .before .loop-test .taken, c .before .before .before .before .used .ensures .1, c .before .before .before .before .before .before .before .pre .0 .1), c .before .get .ensures .1)
+put-slot-requires c κs = (omega (arith, c .before .before .before .loop .inv .1, start c .pre .1), omega (arith, c .before .before .loop-test .taken, c .before .before .before .before .used .ensures .1, start c .pre .0 .1), c .before .get .ensures .1)
 
 add-i : tie.Need-add-i Inv-loop μ-loop
 add-i c = omega (arith, c .before .before .before .before .before .loop-test .taken, c .before .before .before .before .before .before .before .used .ensures .2)
@@ -35,7 +41,7 @@ loop-less : tie.Need-loop-less Inv-loop μ-loop
 loop-less c = omega (arith, c .before .before .before .before .before .loop-test .taken)
 
 loop-again : tie.Need-loop-again Inv-loop μ-loop
-loop-again c = (omega (arith, c .before .before .before .before .before .loop-test .taken), omega (arith, c .before .before .before .before .before .before .loop .inv .1, c .before .before .put-slot .kept .0), listed-on _ _ _ _ _ _ (omega (arith, c .before .before .before .before .before .loop-test .taken, c .before .before .before .before .before .before .before .used .ensures .1)) (c .before .before .before .before .get .ensures .0) (c .before .before .put-slot .ensures) (c .before .before .before .before .before .before .loop .inv .2))
+loop-again c = (omega (arith, c .before .before .before .before .before .loop-test .taken), omega (arith, at-loop c .loop .inv .1, c .before .before .put-slot .kept .0), listed-on _ _ _ _ _ _ (omega (arith, c .before .before .before .before .before .loop-test .taken, at-loop c .before .used .ensures .1)) (c .before .before .before .before .get .ensures .0) (c .before .before .put-slot .ensures) (at-loop c .loop .inv .2))
 
 same-length : tie.Need-same-length Inv-loop μ-loop
 same-length c = c .before .loop .inv .1

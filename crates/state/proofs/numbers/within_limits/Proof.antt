@@ -6,9 +6,18 @@ use borrow.Author.Needs.{needs}
 use Rattle.state.proofs.numbers.within_limits.Statement.{statement}
 use Rattle.state.proofs.numbers.within_limits.Tie as tie
 
+abbrev else4 : tie.After-struct-known9 → tie.Else4
+else4 c = c .before .before .before .before .before .before .before
+
+abbrev else2 : tie.After-struct-known9 → tie.Else2
+else2 c = else4 c .before .before .before .before
+
+abbrev start : tie.After-struct-known9 → tie.Start
+start c = else2 c .before .before .before .before
+
 -- the pages of all blocks but one
-room : (c : tie.After-struct-known9) → (c .before .before .before .before .before .before .before .before .before .before .before .before .before .before .before .args .d .m - 1) * c .before .before .before .before .before .before .before .before .before .before .before .before .before .before .before .args .d .b ≤ 1048320
-room c = room-small _ _ (c .before .before .before .before .before .before .before .before .before .before .before .if2 .left) (c .before .before .before .before .before .before .before .if4 .left)
+room : (c : tie.After-struct-known9) → (start c .args .d .m - 1) * start c .args .d .b ≤ 1048320
+room c = room-small _ _ (else2 c .if2 .left) (else4 c .if4 .left)
 
 returns : tie.Need-returns
 returns c = outside _ (λ l. omega (arith, c .if1 .taken, l .least-M))
@@ -35,7 +44,7 @@ cast-result-2 : tie.Need-cast-result-2
 cast-result-2 c = omega (arith, room c)
 
 returns-7 : tie.Need-returns-7
-returns-7 c = decided _ (c .before .before .before .before .before .before .before .before .before .before .before .before .before .if1 .left) (c .before .before .before .before .before .before .before .before .before .before .before .if2 .left) (c .before .before .before .before .before .before .before .before .before .if3 .left) (c .before .before .before .before .before .before .before .if4 .left) (c .before .before .before .before .before .if5 .left) (c .before .before .before .if6 .left)
+returns-7 c = decided _ (else2 c .before .before .if1 .left) (else2 c .if2 .left) (else4 c .before .before .if3 .left) (else4 c .if4 .left) (c .before .before .before .before .before .if5 .left) (c .before .before .before .if6 .left)
 
 pub within-limits-spec : {M : Type 1} → statement M
 within-limits-spec = tie.close (tie.spec returns returns-2 returns-3 returns-4 returns-5 returns-6 (λ c. search needs)

@@ -15,24 +15,30 @@ use borrow.Author.Needs.{needs}
 use Rattle.state.proofs.seek.seek.Statement.{statement}
 use Rattle.state.proofs.seek.seek.Tie as tie
 
+abbrev start : tie.After-known-told → tie.Start
+start c = c .before .before .before .before .before .before
+
+abbrev start′ : tie.After-known-told2 → tie.Start
+start′ c = c .before .before .before .before .before .before
+
 find-requires : tie.Need-find-requires
 find-requires c κs = (c .before .before .pre .0, group-inside _ _ (c .before .before .pre .2), c .before .before .pre .3, omega arith)
 
 -- the record that was found
-hit : (c : tie.After-known-told) → some (c .before .hit .given .0 .0) ≡ Option·map bare (holder (offsetOf (c .before .before .before .before .before .before .args .page)) (listing (groupAt (readState (c .before .before .before .before .before .before .args .state .now)) (groupOf (c .before .before .before .before .before .before .args .page)))))
+hit : (c : tie.After-known-told) → some (c .before .hit .given .0 .0) ≡ Option·map bare (holder (offsetOf (start c .args .page)) (listing (groupAt (readState (start c .args .state .now)) (groupOf (start c .args .page)))))
 unfolding foundOf
 hit c = sym (ap foundOf (c .before .hit .given .1)) ∙ c .before .before .before .find .ensures .0
 
 named-requires : tie.Need-named-requires
-named-requires c κs = (c .before .before .before .before .before .before .pre .0 .limits, c .before .before .before .before .before .before .pre .1, held-word _ _ _ _ (c .before .before .before .before .before .before .pre .3) _ (hit c))
+named-requires c κs = (start c .pre .0 .limits, start c .pre .1, held-word _ _ _ _ (start c .pre .3) _ (hit c))
 
 returns : tie.Need-returns
 unfolding lookupAnswer lookedOf
-returns c = seek-held _ _ _ _ (c .before .before .before .before .before .before .before .pre .0 .numbers) _ _ _ (held-is _ _ _ _ (c .before .before .before .before .before .before .before .pre .3) _ (hit (c .before))) (sym (ap lookedOf (c .before .before .hit .given .1)) ∙ c .before .before .before .before .find .ensures .1) (c .named .ensures _)
+returns c = seek-held _ _ _ _ (start (c .before) .pre .0 .numbers) _ _ _ (held-is _ _ _ _ (start (c .before) .pre .3) _ (hit (c .before))) (sym (ap lookedOf (c .before .before .hit .given .1)) ∙ c .before .before .before .before .find .ensures .1) (c .named .ensures _)
 
 returns-2 : tie.Need-returns-2
 unfolding lookupAnswer foundOf lookedOf
-returns-2 c = seek-none _ _ _ _ (c .before .before .before .before .before .before .pre .0 .numbers) _ (sym (ap foundOf (c .before .hit2 .given .1)) ∙ c .before .before .before .find .ensures .0) (sym (ap lookedOf (c .before .hit2 .given .1)) ∙ c .before .before .before .find .ensures .1)
+returns-2 c = seek-none _ _ _ _ (start′ c .pre .0 .numbers) _ (sym (ap foundOf (c .before .hit2 .given .1)) ∙ c .before .before .before .find .ensures .0) (sym (ap lookedOf (c .before .hit2 .given .1)) ∙ c .before .before .before .find .ensures .1)
 
 pub seek-spec : {M : Type 1} → statement M
 seek-spec = tie.close (tie.spec find-requires (λ c. search needs) named-requires (λ c. search needs) returns returns-2)

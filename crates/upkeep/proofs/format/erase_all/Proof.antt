@@ -15,6 +15,9 @@ Inv-loop spare₀ d m k₀ spare k = (k ≤ d .m) × (length spare ≡ length sp
 abbrev μ-loop : tie.MeasureT-loop
 μ-loop spare₀ d m k₀ spare k = d .m - k
 
+abbrev start : tie.After-slice-known2 Inv-loop μ-loop → tie.Start Inv-loop μ-loop
+start c = c .before .before .before .before .before .before .before
+
 loop-holds : tie.Need-loop-holds Inv-loop μ-loop
 loop-holds c = (omega arith, refl, blank-none _ _)
 
@@ -25,7 +28,7 @@ add-k : tie.Need-add-k Inv-loop μ-loop
 add-k c = omega (arith, small _ (c .before .before .before .before .before .before .before .pre .0) .blocks)
 
 loop-again : tie.Need-loop-again Inv-loop μ-loop
-loop-again c = (omega arith, omega (arith, c .before .before .erase .kept .0), blank-more _ _ _ _ (c .before .before .before .before .before .loop .inv .1 ∙ c .before .before .before .before .before .before .before .pre .1) (c .before .before .before .before .loop-test .taken) (c .before .before .before .before .before .loop .inv .2) (c .before .before .erase .ensures))
+loop-again c = (omega arith, omega (arith, c .before .before .erase .kept .0), blank-more _ _ _ _ (c .before .before .before .before .before .loop .inv .1 ∙ start c .pre .1) (c .before .before .before .before .loop-test .taken) (c .before .before .before .before .before .loop .inv .2) (c .before .before .erase .ensures))
 
 returns : tie.Need-returns Inv-loop μ-loop
 returns c = blank-all _ _ _ (c .before .loop .inv .1 ∙ c .before .before .before .pre .1) (omega arith) (c .before .loop .inv .2)

@@ -10,6 +10,18 @@ use Rattle.upkeep.proofs.Formatting.{format-numbers, format-state, form
 use Rattle.upkeep.proofs.format.format.Statement.{statement}
 use Rattle.upkeep.proofs.format.format.Tie as tie
 
+abbrev start : tie.Else2 → tie.Start
+start c = c .before .before .before .before .before .before
+
+abbrev after-blank : tie.After-slice-known4 → tie.After-blank
+after-blank c = c .before .before .before .before .before .before
+
+abbrev else3 : tie.After-slice-known4 → tie.Else3
+else3 c = after-blank c .before .before
+
+abbrev else1 : tie.After-erase-all-arg → tie.Else1
+else1 c = c .before .before .before .before .before .before .before .before .before
+
 -- the device that is asked for
 abbrev asked : tie.Start → Device
 asked c = record { M = c .args .m; B = c .args .b; N = c .args .n; g = c .args .g }
@@ -18,10 +30,10 @@ asked c = record { M = c .args .m; B = c .args .b; N = c .args .n; g = c .args .
 within : (c : tie.Else1) → withinLimits (asked (c .before .before .before .before)) ≡ true
 within c = sym (c .before .within-limits .ensures) ∙ not-false (c .before .within-limits .result) (c .if1 .left)
 
-long : (c : tie.Else2) → length (c .before .before .before .before .before .before .args .state .now) ≡ stateLength (asked (c .before .before .before .before .before .before))
+long : (c : tie.Else2) → length (start c .args .state .now) ≡ stateLength (asked (start c))
 long c = c .if2 .left ∙ c .before .state-len .ensures
 
-fits : (c : tie.Else3) → length (c .before .before .before .before .before .before .before .before .args .spare .now) ≡ spareLength (asked (c .before .before .before .before .before .before .before .before))
+fits : (c : tie.Else3) → length (start (c .before .before) .args .spare .now) ≡ spareLength (asked (start (c .before .before)))
 fits c = c .if3 .left ∙ c .before .spare-len .ensures
 
 returns : tie.Need-returns
@@ -46,11 +58,11 @@ blank-requires : tie.Need-blank-requires
 blank-requires c κs = (within (c .before .before .before .before .before), long (c .before .before .before))
 
 erase-all-requires : tie.Need-erase-all-requires
-erase-all-requires c κs = (within (c .before .before .before .before .before .before .before .before .before), fits (c .before .before .before .before .before))
+erase-all-requires c κs = (within (else1 c), fits (c .before .before .before .before .before))
 
 returns-4 : tie.Need-returns-4
 unfolding formatAnswer refusalOf
-returns-4 c = format-done _ _ _ (within (c .before .before .before .before .before .before .before .before .before .before .before .before)) (long (c .before .before .before .before .before .before .before .before .before .before)) (fits (c .before .before .before .before .before .before .before .before)) _ _ (c .before .before .before .before .before .before .blank .ensures) (c .before .before .erase-all .ensures)
+returns-4 c = format-done _ _ _ (within (else1 (c .before .before .before))) (long (else3 c .before .before)) (fits (else3 c)) _ _ (after-blank c .blank .ensures) (c .before .before .erase-all .ensures)
 
 pub format-spec : {M : Type 1} → statement M
 format-spec = tie.close (tie.spec (λ c κs. search needs) returns state-len-requires returns-2 spare-len-requires
