@@ -4,7 +4,7 @@ use mathlib.Core.Path.{_≡_, refl, sym, ap, _∙_}
 use Prim.Native.Nat.{_-_, _≤_}
 use native.Mathlib.Omega.{arith}
 use borrow.Author.Needs.{needs}
-use Rattle.group.specs.Layout.{flagOf, ownerOf}
+use Rattle.group.specs.Layout.{ownerOf}
 use Rattle.group.specs.Reading.{everyFrom}
 use Rattle.group.specs.Checking.{inRange, ownersPass}
 use Rattle.group.proofs.Turns.{every-fails, every-holds, every-done, none-pass}
@@ -22,8 +22,7 @@ asked : (c : tie.After-in-range Inv-loop μ-loop) → c .in-range .result ≡ in
 asked c = c .in-range .ensures ∙ ap (inRange (c .before .before .before .before .before .before .before .before .args .ends .now) (c .before .before .before .loop .o)) (c .before .owner .ensures .0)
 
 returns : tie.Need-returns Inv-loop μ-loop
-unfolding flagOf
-returns c = sym (none-pass _ _ (sym (c .before .get-u16 .ensures .0) ∙ c .if1 .taken))
+returns c = sym (none-pass _ _ (sym (c .before .flag .ensures) ∙ c .if1 .taken))
 
 loop-holds : tie.Need-loop-holds Inv-loop μ-loop
 loop-holds c = (omega arith, refl)

@@ -5,16 +5,16 @@ use Prim.Native.Nat.{_-_}
 use Rattle.slots.proofs.Passes.{Passed, passed-start, passed-end, mask-turn}
 use lib.ListN.{length, length-set}
 use Rattle.record.specs.Scan.{masked}
-use Rattle.group.specs.Layout.{ownerOf}
+use Rattle.group.specs.Layout.{offsets, ownerOf}
 use Rattle.slots.specs.Owners.{leftTo}
 use Rattle.slots.proofs.left_to.Statement.{statement}
 use Rattle.slots.proofs.left_to.Tie as tie
 
 abbrev Inv-loop : tie.InvT-loop
-Inv-loop b start taken left₀ o₀ left o = (length left ≡ 256) × Passed (λ k z. leftTo start (masked taken k) (ownerOf b k)) (masked left₀) (masked left) o
+Inv-loop b start taken left₀ o₀ left o = (length left ≡ offsets) × Passed (λ k. leftTo start (masked taken k) (ownerOf b k)) (masked left₀) (masked left) o
 
 abbrev μ-loop : tie.MeasureT-loop
-μ-loop b start taken left₀ o₀ left o = 256 - o
+μ-loop b start taken left₀ o₀ left o = offsets - o
 
 loop-holds : tie.Need-loop-holds Inv-loop μ-loop
 loop-holds c = (c .before .before .before .pre .3, passed-start _ _)

@@ -1,16 +1,16 @@
--- `settle` meets its contract: at each turn the slots from k on are left to number.
+-- `renumber_levels` meets its contract: at each turn the slots from k on are left to number.
 use native.Mathlib.Omega.{arith}
 use Prim.Native.Nat.{_-_, _≤_}
 use mathlib.Core.Path.{refl, sym, _∙_}
 use Rattle.group.specs.Layout.{slotsOf}
-use Rattle.slots.specs.Edits.{settle}
+use Rattle.slots.specs.Edits.{renumberLevels}
 use Rattle.slots.proofs.Behind.{behindFirst}
-use Rattle.slots.proofs.SlotPass.{Changing, change-start, change-turn, change-end, settle-one}
-use Rattle.slots.proofs.settle.Statement.{statement}
-use Rattle.slots.proofs.settle.Tie as tie
+use Rattle.slots.proofs.SlotPass.{Changing, change-start, change-turn, change-end, renumber-one}
+use Rattle.slots.proofs.renumber_levels.Statement.{statement}
+use Rattle.slots.proofs.renumber_levels.Tie as tie
 
 abbrev Inv-loop : tie.InvT-loop
-Inv-loop b₀ n old₀ new₀ k₀ b old new k = Changing (settle old new) (settle 0 0 (slotsOf b₀)) b₀ b n k × (new ≤ k)
+Inv-loop b₀ n old₀ new₀ k₀ b old new k = Changing (renumberLevels old new) (renumberLevels 0 0 (slotsOf b₀)) b₀ b n k × (new ≤ k)
 
 abbrev μ-loop : tie.MeasureT-loop
 μ-loop b₀ n old₀ new₀ k₀ b old new k = n - k
@@ -44,7 +44,7 @@ loop-again : tie.Need-loop-again Inv-loop μ-loop
 loop-again c =
     let so = c .before .before .before .before .before .before .before .before .loop .inv in
     let number = c .before .before .before .before .renumber .ensures in
-    let turn = settle-one _ _ _ _ _ (c .before .before .before .before .before .level .ensures .0) (number .0) in (
+    let turn = renumber-one _ _ _ _ _ (c .before .before .before .before .before .level .ensures .0) (number .0) in (
       change-turn _ _ _ _ _ _ (so .0) _ _ _ (c .before .before .before .before .before .before .before .loop-test .taken) (c .before .before .relevel .ensures) turn,
       omega (arith, number .1, so .1),
     )
@@ -53,9 +53,9 @@ same-length : tie.Need-same-length Inv-loop μ-loop
 same-length c = c .before .loop .inv .0 .room .0 ∙ sym (c .before .before .before .before .before .pre .0)
 
 returns : tie.Need-returns Inv-loop μ-loop
-unfolding settle
+unfolding renumberLevels
 returns c = change-end _ _ _ _ _ _ (c .before .loop .inv .0) refl (c .loop-test .left)
 
-pub settle-spec : {M : Type 1} → statement M
-settle-spec = tie.close (tie.spec Inv-loop μ-loop used-requires loop-holds level-requires renumber-requires
+pub renumber-levels-spec : {M : Type 1} → statement M
+renumber-levels-spec = tie.close (tie.spec Inv-loop μ-loop used-requires loop-holds level-requires renumber-requires
     relevel-requires (λ c. omega arith) (λ c. omega arith) loop-again same-length returns)
