@@ -5,13 +5,6 @@ use borrow.Author.Needs.{needs}
 use Rattle.group.proofs.level.Statement.{statement}
 use Rattle.group.proofs.level.Tie as tie
 
-get-u16-requires : tie.Need-get-u16-requires
-unfolding groupLength
-get-u16-requires c κs = search needs
-
-returns : tie.Need-returns
-unfolding slotLevel
-returns c = search needs
-
 pub level-spec : {M : Type 1} → statement M
-level-spec = tie.close (tie.spec (λ c. search needs) (λ c. search needs) (λ c. search needs) get-u16-requires returns)
+level-spec = tie.close (tie.spec (λ c. search needs) (λ c. search needs) (λ c. search needs)
+    (λ c κs. unfold groupLength in search needs) (λ c. unfold slotLevel in search needs))

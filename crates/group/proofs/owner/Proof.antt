@@ -11,14 +11,10 @@ use Rattle.group.proofs.owner.Tie as tie
 returns : tie.Need-returns
 returns c = (sym (owner-none _ _ (sym (c .before .flag .ensures) ∙ c .if1 .taken)), omega arith)
 
-get-u16-requires : tie.Need-get-u16-requires
-unfolding groupLength
-get-u16-requires c κs = search needs
-
 returns-2 : tie.Need-returns-2
 unfolding entryOf
 returns-2 c = (c .get-u16 .ensures .0 ∙ sym (owner-entry _ _ (λ e. c .before .if1 .left (c .before .before .flag .ensures ∙ e))), c .get-u16 .ensures .1)
 
 pub owner-spec : {M : Type 1} → statement M
-owner-spec = tie.close (tie.spec (λ c κs. search needs) returns (λ c. search needs) (λ c. search needs) get-u16-requires
-    returns-2)
+owner-spec = tie.close (tie.spec (λ c κs. search needs) returns (λ c. search needs) (λ c. search needs)
+    (λ c κs. unfold groupLength in search needs) returns-2)

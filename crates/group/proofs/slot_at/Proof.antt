@@ -5,14 +5,10 @@ use borrow.Author.Needs.{needs}
 use Rattle.group.proofs.slot_at.Statement.{statement}
 use Rattle.group.proofs.slot_at.Tie as tie
 
-decode-requires : tie.Need-decode-requires
-unfolding groupLength
-decode-requires c κs = search needs
-
 returns : tie.Need-returns
 unfolding slotOf slotRecord
 returns c = let held = c .before .decode .ensures in let level = c .level .ensures in (rw (held .0, level .0), level .1, held .1)
 
 pub slot-at-spec : {M : Type 1} → statement M
-slot-at-spec = tie.close (tie.spec (λ c. search needs) (λ c. search needs) decode-requires (λ c κs. search needs)
-    returns)
+slot-at-spec = tie.close (tie.spec (λ c. search needs) (λ c. search needs) (λ c κs. unfold groupLength in search needs)
+    (λ c κs. search needs) returns)
