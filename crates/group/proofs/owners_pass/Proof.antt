@@ -24,9 +24,6 @@ asked c = c .in-range .ensures ∙ ap (inRange (c .before .before .before .befor
 returns : tie.Need-returns Inv-loop μ-loop
 returns c = sym (none-pass _ _ (sym (c .before .flag .ensures) ∙ c .if1 .taken))
 
-loop-holds : tie.Need-loop-holds Inv-loop μ-loop
-loop-holds c = (omega arith, refl)
-
 returns-2 : tie.Need-returns-2 Inv-loop μ-loop
 returns-2 c = sym (c .before .before .before .before .loop .inv .1 ∙ every-fails _ 256 _ (c .before .before .before .loop-test .taken) _ (asked (c .before)) (not-true _ (c .if2 .taken)))
 
@@ -37,5 +34,5 @@ returns-3 : tie.Need-returns-3 Inv-loop μ-loop
 returns-3 c = sym (c .before .loop .inv .1 ∙ every-done _ 256 _ (c .loop-test .left))
 
 pub owners-pass-spec : {M : Type 1} → statement M
-owners-pass-spec = tie.close (tie.spec Inv-loop μ-loop (λ c κs. search needs) returns loop-holds (λ c κs. search needs)
-    (λ c κs. search needs) returns-2 (λ c. search needs) (λ c. omega arith) loop-again returns-3)
+owners-pass-spec = tie.close (tie.spec Inv-loop μ-loop (λ c κs. search needs) returns (λ c. search needs)
+    (λ c κs. search needs) (λ c κs. search needs) returns-2 (λ c. search needs) (λ c. omega arith) loop-again returns-3)

@@ -1,4 +1,5 @@
 -- `meets_at` meets its contract: at each turn none of the slots before j meets the record.
+use borrow.Author.Needs.{needs}
 use Prim.Native.Nat.{_-_, _≤_}
 use native.Mathlib.Omega.{arith}
 use lib.ListN.{length}
@@ -13,14 +14,8 @@ Inv-loop b n r m j₀ j = (j ≤ m) × Looking (slotsOf b) n r j
 abbrev μ-loop : tie.MeasureT-loop
 μ-loop b n r m j₀ j = m - j
 
-used-requires : tie.Need-used-requires Inv-loop μ-loop
-used-requires c κs = c .before .pre .0
-
 loop-holds : tie.Need-loop-holds Inv-loop μ-loop
 loop-holds c = (omega arith, look-start _ _ _)
-
-get-requires : tie.Need-get-requires Inv-loop μ-loop
-get-requires c κs = (c .before .before .before .before .pre, omega (arith, c .before .before .used .ensures .1))
 
 meets-there-requires : tie.Need-meets-there-requires Inv-loop μ-loop
 meets-there-requires c κs = tt
@@ -35,5 +30,5 @@ returns-2 : tie.Need-returns-2 Inv-loop μ-loop
 returns-2 c = let n : length (slotsOf (c .before .before .before .before .args .b .now)) ≤ c .before .loop .j = omega (arith, c .before .before .used .ensures .1) in look-end _ _ _ _ (c .before .loop .inv .1) n
 
 pub meets-at-spec : {M : Type 1} → statement M
-meets-at-spec = tie.close (tie.spec Inv-loop μ-loop used-requires loop-holds get-requires meets-there-requires returns
-    (λ c. omega arith) (λ c. omega arith) loop-again returns-2)
+meets-at-spec = tie.close (tie.spec Inv-loop μ-loop (λ c κs. search needs) loop-holds (λ c κs. search needs)
+    meets-there-requires returns (λ c. omega arith) (λ c. omega arith) loop-again returns-2)

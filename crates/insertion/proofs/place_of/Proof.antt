@@ -1,4 +1,5 @@
 -- `place_of` meets its contract: at each turn the slots before i stand before the record.
+use borrow.Author.Needs.{needs}
 use Prim.Native.Nat.{_-_, _≤_}
 use native.Mathlib.Omega.{arith}
 use borrow.Author.Tests.{not-true, not-false}
@@ -14,14 +15,8 @@ Inv-loop b n start k i₀ i = (i ≤ k) × Passing (slotsOf b) n start i
 abbrev μ-loop : tie.MeasureT-loop
 μ-loop b n start k i₀ i = k - i
 
-used-requires : tie.Need-used-requires Inv-loop μ-loop
-used-requires c κs = c .before .pre .0
-
 loop-holds : tie.Need-loop-holds Inv-loop μ-loop
 loop-holds c = (omega arith, pass-start _ _ _)
-
-get-requires : tie.Need-get-requires Inv-loop μ-loop
-get-requires c κs = (c .before .before .before .before .pre, omega (arith, c .before .before .used .ensures .1))
 
 before-requires : tie.Need-before-requires Inv-loop μ-loop
 before-requires c κs = tt
@@ -36,5 +31,5 @@ returns-2 : tie.Need-returns-2 Inv-loop μ-loop
 returns-2 c = (omega (arith, c .before .before .used .ensures .1), let n : length (slotsOf (c .before .before .before .before .args .b .now)) ≤ c .before .loop .i = omega (arith, c .before .before .used .ensures .1) in pass-end _ _ _ _ (c .before .loop .inv .1) n)
 
 pub place-of-spec : {M : Type 1} → statement M
-place-of-spec = tie.close (tie.spec Inv-loop μ-loop used-requires loop-holds get-requires before-requires returns
-    (λ c. omega arith) (λ c. omega arith) loop-again returns-2)
+place-of-spec = tie.close (tie.spec Inv-loop μ-loop (λ c κs. search needs) loop-holds (λ c κs. search needs)
+    before-requires returns (λ c. omega arith) (λ c. omega arith) loop-again returns-2)

@@ -1,4 +1,5 @@
 -- `hand_all` meets its contract: at each turn the offsets before o have their new owners.
+use borrow.Author.Needs.{needs}
 use mathlib.Core.Path.{sym, _∙_}
 use native.Mathlib.Omega.{arith}
 use Prim.Native.Nat.{_-_}
@@ -18,19 +19,6 @@ abbrev μ-loop : tie.MeasureT-loop
 loop-holds : tie.Need-loop-holds Inv-loop μ-loop
 loop-holds c = rename-start _ _ (c .before .before .pre .0)
 
-owner-requires : tie.Need-owner-requires Inv-loop μ-loop
-owner-requires c κs = (c .before .before .loop .inv .room .0, omega arith)
-
-handed-requires : tie.Need-handed-requires Inv-loop μ-loop
-handed-requires c κs =
-    let start = c .before .before .before .before .before .before .before in
-    (c .before .owner .ensures .1, start .pre .1, start .pre .3)
-
-set-entry-requires : tie.Need-set-entry-requires Inv-loop μ-loop
-set-entry-requires c κs =
-    let so = c .before .before .before .before .before .before .loop .inv in
-    (so .room, omega arith, c .before .handed .ensures .1)
-
 loop-again : tie.Need-loop-again Inv-loop μ-loop
 loop-again c =
     let so = c .before .before .before .before .before .before .before .before .before .loop .inv in
@@ -45,5 +33,6 @@ returns : tie.Need-returns Inv-loop μ-loop
 returns c = rename-end _ _ _ _ (c .before .loop .inv) (c .loop-test .left)
 
 pub hand-all-spec : {M : Type 1} → statement M
-hand-all-spec = tie.close (tie.spec Inv-loop μ-loop loop-holds owner-requires (λ c. omega arith) (λ c. omega arith)
-    handed-requires set-entry-requires (λ c. omega arith) (λ c. omega arith) loop-again same-length returns)
+hand-all-spec = tie.close (tie.spec Inv-loop μ-loop loop-holds (λ c κs. search needs) (λ c. omega arith)
+    (λ c. omega arith) (λ c κs. search needs) (λ c κs. search needs) (λ c. omega arith) (λ c. omega arith) loop-again
+    same-length returns)

@@ -7,10 +7,6 @@ use borrow.Author.Needs.{needs}
 use Rattle.slots.proofs.own.Statement.{statement}
 use Rattle.slots.proofs.own.Tie as tie
 
-put-u16-requires : tie.Need-put-u16-requires
-unfolding groupLength
-put-u16-requires c κs = (omega (arith, c .before .before .before .own-all .ensures .room .0), omega arith)
-
 returns : tie.Need-returns
 returns c =
     let done = c .before .before .before .before .before .before .own-all .ensures in
@@ -18,4 +14,5 @@ returns c =
     renamed-shows _ _ _ _ done (after .room) (after .slots) (after .entries) (λ e. omega (arith, after .flag))
 
 pub own-spec : {M : Type 1} → statement M
-own-spec = tie.close (tie.spec (λ c κs. search needs) put-u16-requires (λ c. search needs) returns)
+own-spec = tie.close (tie.spec (λ c κs. search needs) (λ c κs. unfold groupLength in search needs) (λ c. search needs)
+    returns)

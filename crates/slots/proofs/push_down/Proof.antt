@@ -1,4 +1,5 @@
 -- `push_down` meets its contract: at each turn the slots from j on are left to push down.
+use borrow.Author.Needs.{needs}
 use Rattle.slots.proofs.SlotPass.{Changing, change-start, change-turn, change-end, Lowerable, down-start, down-turn, push-one}
 use native.Mathlib.Omega.{arith}
 use Prim.Native.Nat.{_-_}
@@ -15,20 +16,11 @@ Inv-loop b₀ i n j₀ b j = Changing (pushDownFrom 0) (pushDownFrom i (slotsOf 
 abbrev μ-loop : tie.MeasureT-loop
 μ-loop b₀ i n j₀ b j = n - j
 
-used-requires : tie.Need-used-requires Inv-loop μ-loop
-used-requires c κs = c .before .before .pre .0 .0
-
 loop-holds : tie.Need-loop-holds Inv-loop μ-loop
 loop-holds c =
     let start = c .before .before .before in
     let n = c .used .ensures .1 in
     (change-start _ _ _ _ _ (start .pre .0) n (push-behind _ _), down-start _ _ _ n (start .pre .1))
-
-level-requires : tie.Need-level-requires Inv-loop μ-loop
-level-requires c κs =
-    let so = c .before .before .loop .inv .0 in
-    let count = so .count in
-    (so .room, omega arith)
 
 relevel-requires : tie.Need-relevel-requires Inv-loop μ-loop
 relevel-requires c κs =
@@ -53,5 +45,5 @@ unfolding pushDownFrom
 returns c = change-end _ _ _ _ _ _ (c .before .loop .inv .0) refl (c .loop-test .left)
 
 pub push-down-spec : {M : Type 1} → statement M
-push-down-spec = tie.close (tie.spec Inv-loop μ-loop used-requires loop-holds level-requires (λ c. omega arith)
-    relevel-requires (λ c. omega arith) (λ c. omega arith) loop-again same-length returns)
+push-down-spec = tie.close (tie.spec Inv-loop μ-loop (λ c κs. search needs) loop-holds (λ c κs. search needs)
+    (λ c. omega arith) relevel-requires (λ c. omega arith) (λ c. omega arith) loop-again same-length returns)

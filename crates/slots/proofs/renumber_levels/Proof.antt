@@ -1,4 +1,5 @@
 -- `renumber_levels` meets its contract: at each turn the slots from k on are left to number.
+use borrow.Author.Needs.{needs}
 use native.Mathlib.Omega.{arith}
 use Prim.Native.Nat.{_-_, _≤_}
 use mathlib.Core.Path.{refl, sym, _∙_}
@@ -15,30 +16,9 @@ Inv-loop b₀ n old₀ new₀ k₀ b old new k = Changing (renumberLevels old ne
 abbrev μ-loop : tie.MeasureT-loop
 μ-loop b₀ n old₀ new₀ k₀ b old new k = n - k
 
-used-requires : tie.Need-used-requires Inv-loop μ-loop
-used-requires c κs = c .before .before .pre .0
-
 loop-holds : tie.Need-loop-holds Inv-loop μ-loop
 unfolding behindFirst
 loop-holds c = (change-start _ _ _ _ _ (c .before .before .before .pre) (c .used .ensures .1) refl, omega arith)
-
-level-requires : tie.Need-level-requires Inv-loop μ-loop
-level-requires c κs =
-    let so = c .before .before .loop .inv .0 in
-    let count = so .count in
-    (so .room, omega arith)
-
-renumber-requires : tie.Need-renumber-requires Inv-loop μ-loop
-renumber-requires c κs =
-    let so = c .before .before .before .loop .inv .0 in
-    let count = so .count in
-    omega (arith, so .room .1)
-
-relevel-requires : tie.Need-relevel-requires Inv-loop μ-loop
-relevel-requires c κs =
-    let so = c .before .before .before .before .before .loop .inv .0 in
-    let count = so .count in
-    (so .room, omega arith, omega (arith, so .room .1))
 
 loop-again : tie.Need-loop-again Inv-loop μ-loop
 loop-again c =
@@ -57,5 +37,5 @@ unfolding renumberLevels
 returns c = change-end _ _ _ _ _ _ (c .before .loop .inv .0) refl (c .loop-test .left)
 
 pub renumber-levels-spec : {M : Type 1} → statement M
-renumber-levels-spec = tie.close (tie.spec Inv-loop μ-loop used-requires loop-holds level-requires renumber-requires
-    relevel-requires (λ c. omega arith) (λ c. omega arith) loop-again same-length returns)
+renumber-levels-spec = tie.close (tie.spec Inv-loop μ-loop (λ c κs. search needs) loop-holds (λ c κs. search needs)
+    (λ c κs. search needs) (λ c κs. search needs) (λ c. omega arith) (λ c. omega arith) loop-again same-length returns)
