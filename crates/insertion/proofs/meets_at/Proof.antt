@@ -14,12 +14,6 @@ Inv-loop b n r m j₀ j = (j ≤ m) × Looking (slotsOf b) n r j
 abbrev μ-loop : tie.MeasureT-loop
 μ-loop b n r m j₀ j = m - j
 
-loop-holds : tie.Need-loop-holds Inv-loop μ-loop
-loop-holds c = (omega arith, look-start _ _ _)
-
-meets-there-requires : tie.Need-meets-there-requires Inv-loop μ-loop
-meets-there-requires c κs = tt
-
 returns : tie.Need-returns Inv-loop μ-loop
 returns c = look-found _ _ _ _ (c .before .before .before .before .loop .inv .1) _ _ (omega (arith, c .before .before .before .before .before .used .ensures .1)) (c .before .before .get .ensures .0) (c .before .meets-there .ensures) (c .if1 .taken)
 
@@ -30,5 +24,5 @@ returns-2 : tie.Need-returns-2 Inv-loop μ-loop
 returns-2 c = let n : length (slotsOf (c .before .before .before .before .args .b .now)) ≤ c .before .loop .j = omega (arith, c .before .before .used .ensures .1) in look-end _ _ _ _ (c .before .loop .inv .1) n
 
 pub meets-at-spec : {M : Type 1} → statement M
-meets-at-spec = tie.close (tie.spec Inv-loop μ-loop (λ c κs. search needs) loop-holds (λ c κs. search needs)
-    meets-there-requires returns (λ c. omega arith) (λ c. omega arith) loop-again returns-2)
+meets-at-spec = tie.close (tie.spec Inv-loop μ-loop (λ c κs. search needs) (λ c. search needs) (λ c κs. search needs)
+    (λ c κs. search needs) returns (λ c. omega arith) (λ c. omega arith) loop-again returns-2)

@@ -15,12 +15,6 @@ Inv-loop b n start k i₀ i = (i ≤ k) × Passing (slotsOf b) n start i
 abbrev μ-loop : tie.MeasureT-loop
 μ-loop b n start k i₀ i = k - i
 
-loop-holds : tie.Need-loop-holds Inv-loop μ-loop
-loop-holds c = (omega arith, pass-start _ _ _)
-
-before-requires : tie.Need-before-requires Inv-loop μ-loop
-before-requires c κs = tt
-
 returns : tie.Need-returns Inv-loop μ-loop
 returns c = (omega (arith, c .before .before .before .before .before .used .ensures .1), pass-stop _ _ _ _ (c .before .before .before .before .loop .inv .1) _ _ (omega (arith, c .before .before .before .before .before .used .ensures .1)) (c .before .before .get .ensures .0) (c .before .before2 .ensures) (not-true _ (c .if1 .taken)))
 
@@ -31,5 +25,5 @@ returns-2 : tie.Need-returns-2 Inv-loop μ-loop
 returns-2 c = (omega (arith, c .before .before .used .ensures .1), let n : length (slotsOf (c .before .before .before .before .args .b .now)) ≤ c .before .loop .i = omega (arith, c .before .before .used .ensures .1) in pass-end _ _ _ _ (c .before .loop .inv .1) n)
 
 pub place-of-spec : {M : Type 1} → statement M
-place-of-spec = tie.close (tie.spec Inv-loop μ-loop (λ c κs. search needs) loop-holds (λ c κs. search needs)
-    before-requires returns (λ c. omega arith) (λ c. omega arith) loop-again returns-2)
+place-of-spec = tie.close (tie.spec Inv-loop μ-loop (λ c κs. search needs) (λ c. search needs) (λ c κs. search needs)
+    (λ c κs. search needs) returns (λ c. omega arith) (λ c. omega arith) loop-again returns-2)

@@ -28,9 +28,6 @@ run c = held _ _ _ (c .loop-test .taken) (c .before .before .before .before .bef
 loop-holds : tie.Need-loop-holds Inv-loop μ-loop
 loop-holds c = (stored-start _ _ _, bytes-start _ _ _)
 
-run-at-requires : tie.Need-run-at-requires Inv-loop μ-loop
-run-at-requires c κs = let pre = c .before .before .before .before .before .pre .0 in (record { ascends = pre .0; size = pre .1; pages = pre .2; bound = pre .3 }, c .loop-test .taken)
-
 encode-requires : tie.Need-encode-requires Inv-loop μ-loop
 encode-requires c κs = (omega (arith, c .before .before .before .before .loop .inv .1 .kept, c .before .before .before .before .loop .inv .0 .few, c .before .before .before .loop-test .taken, c .before .before .before .before .before .before .before .before .pre .1 .0), subst (λ (r : Record). InEight r) (sym (c .before .before .run-at .ensures .0)) (run (c .before .before .before) .bytes))
 
@@ -59,6 +56,6 @@ returns c =
     (e .0, (bytes-all _ _ _ _ _ _ (so .0) _ _ (so .1) (c .loop-test .left), e .1))
 
 pub probe-learn-spec : {M : Type 1} → statement M
-probe-learn-spec = tie.close (tie.spec Inv-loop μ-loop loop-holds run-at-requires (λ c. search needs) encode-requires
-    cast-taken (λ c. search needs) (λ c. search needs) add-i (λ c. search needs) loop-less loop-again
+probe-learn-spec = tie.close (tie.spec Inv-loop μ-loop loop-holds (λ c κs. search needs) (λ c. search needs)
+    encode-requires cast-taken (λ c. search needs) (λ c. search needs) add-i (λ c. search needs) loop-less loop-again
     (λ c. search needs) (λ c. search needs) returns)

@@ -26,13 +26,10 @@ loop-again c =
     let stays = c .staying .ensures ∙ ap (leftTo _ _) (c .before .before .owner .ensures .0) in
     (simp length-set (so .inv .0), mask-turn _ _ (so .left) _ (c .staying .result) (so .inv .0) (so .inv .1) (c .before .before .before .loop-test .taken) stays)
 
-same-length : tie.Need-same-length Inv-loop μ-loop
-same-length c = c .before .loop .inv .0 ∙ sym (c .before .before .before .before .before .pre .3)
-
 returns : tie.Need-returns Inv-loop μ-loop
 returns c = (c .before .loop .inv .0, passed-end _ _ _ _ (c .before .loop .inv .1) (c .loop-test .left))
 
 pub left-to-spec : {M : Type 1} → statement M
 left-to-spec = tie.close (tie.spec Inv-loop μ-loop loop-holds (λ c κs. search needs) (λ c. omega arith)
     (λ c. omega arith) (λ c κs. search needs) (λ c. omega arith) (λ c. omega arith) (λ c. omega arith)
-    (λ c. omega arith) loop-again same-length returns)
+    (λ c. omega arith) loop-again (λ c. search needs) returns)

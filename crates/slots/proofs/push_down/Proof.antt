@@ -37,13 +37,10 @@ loop-again c =
       down-turn _ _ _ _ _ (done .1) (so .1),
     )
 
-same-length : tie.Need-same-length Inv-loop μ-loop
-same-length c = c .before .loop .inv .0 .room .0 ∙ sym (c .before .before .before .before .before .pre .0 .0)
-
 returns : tie.Need-returns Inv-loop μ-loop
 unfolding pushDownFrom
 returns c = change-end _ _ _ _ _ _ (c .before .loop .inv .0) refl (c .loop-test .left)
 
 pub push-down-spec : {M : Type 1} → statement M
 push-down-spec = tie.close (tie.spec Inv-loop μ-loop (λ c κs. search needs) loop-holds (λ c κs. search needs)
-    (λ c. omega arith) relevel-requires (λ c. omega arith) (λ c. omega arith) loop-again same-length returns)
+    (λ c. omega arith) relevel-requires (λ c. omega arith) (λ c. omega arith) loop-again (λ c. search needs) returns)

@@ -16,10 +16,6 @@ Inv-loop b₀ n old₀ new₀ k₀ b old new k = Changing (renumberLevels old ne
 abbrev μ-loop : tie.MeasureT-loop
 μ-loop b₀ n old₀ new₀ k₀ b old new k = n - k
 
-loop-holds : tie.Need-loop-holds Inv-loop μ-loop
-unfolding behindFirst
-loop-holds c = (change-start _ _ _ _ _ (c .before .before .before .pre) (c .used .ensures .1) refl, omega arith)
-
 loop-again : tie.Need-loop-again Inv-loop μ-loop
 loop-again c =
     let so = c .before .before .before .before .before .before .before .before .loop .inv in
@@ -29,13 +25,11 @@ loop-again c =
       omega (arith, number .1, so .1),
     )
 
-same-length : tie.Need-same-length Inv-loop μ-loop
-same-length c = c .before .loop .inv .0 .room .0 ∙ sym (c .before .before .before .before .before .pre .0)
-
 returns : tie.Need-returns Inv-loop μ-loop
 unfolding renumberLevels
 returns c = change-end _ _ _ _ _ _ (c .before .loop .inv .0) refl (c .loop-test .left)
 
 pub renumber-levels-spec : {M : Type 1} → statement M
-renumber-levels-spec = tie.close (tie.spec Inv-loop μ-loop (λ c κs. search needs) loop-holds (λ c κs. search needs)
-    (λ c κs. search needs) (λ c κs. search needs) (λ c. omega arith) (λ c. omega arith) loop-again same-length returns)
+renumber-levels-spec = tie.close (tie.spec Inv-loop μ-loop (λ c κs. search needs)
+    (λ c. unfold behindFirst in search needs) (λ c κs. search needs) (λ c κs. search needs) (λ c κs. search needs)
+    (λ c. omega arith) (λ c. omega arith) loop-again (λ c. search needs) returns)
