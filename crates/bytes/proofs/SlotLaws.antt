@@ -3,16 +3,15 @@ use mathlib.Core.Path.{_≡_, refl, _∙_}
 use mathlib.Core.List.{List}
 use Prim.Native.Nat.{ℕ, zero, suc, _+_, _-_, _*_, _≤_, _<_}
 use native.Mathlib.Omega.{arith}
-use native.Mathlib.Nat.{mul-le-mul-right}
 use native.Mathlib.Numerals.{add-one}
 use lib.ListN.{length, set, take, drop}
 use lib.Seq.{take-all}
 use Rattle.model.specs.Lists.{store}
 use Rattle.model.proofs.Lists.{length-store}
-use Rattle.bytes.specs.Slots.{movedUp, movedDown, slotAt, slots, insertAt, removeAt}
+use Rattle.bytes.specs.Slots.{moved, slotAt, slots, insertAt, removeAt}
 use Rattle.bytes.proofs.Stores.{part-store}
 use Rattle.bytes.proofs.Same.{Same, same-first, same-inner, same-then, length-part, part-same, stored-below, stored-above, stored-at}
-use Rattle.bytes.proofs.Moves.{length-movedUp, length-movedDown, movedUp-moved, movedUp-below, movedDown-moved, movedDown-below}
+use Rattle.bytes.proofs.Moves.{length-moved, moved-at, moved-below, slots-width}
 
 -- a slot inside the list is as long as its width
 pub length-slotAt : (w b : ℕ) (s : List ℕ) (i : ℕ) → b + (i + 1) * w ≤ length s → length (slotAt w b s i) ≡ w
@@ -30,68 +29,74 @@ slots-same {s = s} {t = t} {p = p} {q = q} w (suc n) a h k =
     let others : slots w (p + w) n s ≡ slots w (q + w) n t = slots-same w n (same-inner w (n * w) (omega arith) a) (omega arith) (omega arith) in
     rw (e, f, first, others)
 
--- a slot opened at place `from`, the slots up to `to` moved up, and v stored in it
-module _ (w : ℕ) (s v : List ℕ) (from to : ℕ) (long : length v ≡ w) (ordered : from ≤ to) (inside : to + w ≤ length s) where
+-- a slot opened at place q, the n bytes from it on moved up, and v stored in it
+module _ (w : ℕ) (s v : List ℕ) (q m : ℕ) (long : length v ≡ w) (inside : q + m + w ≤ length s) where
   abbrev filled : List ℕ
-  filled = store (movedUp s from to w) from v
+  filled = store (moved s (q + w) q m) q v
 
   filled-long : length filled ≡ length s
-  filled-long = length-store (movedUp s from to w) from v ∙ length-movedUp s from to w
+  filled-long = length-store (moved s (q + w) q m) q v ∙ length-moved s (q + w) q m
 
-  pub opened-below : (n q : ℕ) → q + n ≤ from → Same n (store (movedUp s from to w) from v) q s q
-  opened-below n q h = same-then (stored-below n (movedUp s from to w) from v q h) (movedUp-below s from to w ordered inside n q (omega arith))
+  opened-below : (n x : ℕ) → x + n ≤ q → Same n filled x s x
+  opened-below n x h = same-then (stored-below n (moved s (q + w) q m) q v x h) (moved-below s (q + w) q m n x (omega arith))
 
-  opened-moved : Same (to - from) filled (from + w) s from
-  opened-moved = same-then (stored-above (to - from) (movedUp s from to w) from v (from + w) (omega arith)) (movedUp-moved s from to w ordered inside)
+  opened-moved : Same m filled (q + w) s q
+  opened-moved = same-then (stored-above m (moved s (q + w) q m) q v (q + w) (omega arith)) (moved-at s (q + w) q m (omega arith) (omega arith))
 
-  opened-new : take w (drop from filled) ≡ v
+  opened-new : take w (drop q filled) ≡ v
   opened-new =
-      let room : from + length v ≤ length (movedUp s from to w) = omega (arith, length-movedUp s from to w) in
-      let a : Same w filled from v 0 = same-first w (omega arith) (stored-at (movedUp s from to w) from v room) in
+      let room : q + length v ≤ length (moved s (q + w) q m) = omega (arith, length-moved s (q + w) q m) in
+      let a : Same w filled q v 0 = same-first w (omega arith) (stored-at (moved s (q + w) q m) q v room) in
       part-same a (omega (arith, filled-long)) (omega arith) ∙ take-all w v (omega arith)
 
-  open-from : (i n b : ℕ) → i ≤ n → from ≡ b + i * w → to ≡ b + n * w → slots w b (suc n) filled ≡ insertAt i v (slots w b n s)
+  open-from : (i n b : ℕ) → i ≤ n → q ≡ b + i * w → q + m ≡ b + n * w → slots w b (suc n) filled ≡ insertAt i v (slots w b n s)
   unfolding slots slotAt insertAt
-  open-from zero n b h ef et =
-      let d : b ≡ from = omega arith in
-      let e : from + 0 * w ≡ from = omega arith in
-      let others : slots w (from + w) n filled ≡ slots w from n s = slots-same w n (same-first (n * w) (omega arith) opened-moved) (omega (arith, filled-long)) (omega arith) in
-      rw (d, e, opened-new, others)
-  open-from (suc i) zero b h ef et = absurd (omega arith)
-  open-from (suc i) (suc n) b h ef et =
-      let e : b + 0 * w ≡ b = omega arith in
+  open-from zero n b h e f =
+      let d : b ≡ q = omega arith in
+      let z : q + 0 * w ≡ q = omega arith in
+      let others : slots w (q + w) n filled ≡ slots w q n s = slots-same w n (same-first (n * w) (omega arith) opened-moved) (omega (arith, filled-long)) (omega arith) in
+      rw (d, z, opened-new, others)
+  open-from (suc i) zero b h e f = absurd (omega arith)
+  open-from (suc i) (suc n) b h e f =
+      let z : b + 0 * w ≡ b = omega arith in
       let first : take w (drop b filled) ≡ take w (drop b s) = part-same (opened-below w b (omega arith)) (omega (arith, filled-long)) (omega arith) in
       let others : slots w (b + w) (suc n) filled ≡ insertAt i v (slots w (b + w) n s) = open-from i n (b + w) (omega arith) (omega arith) (omega arith) in
-      rw (e, first, others)
+      rw (z, first, others)
 
 -- opening slot i of `used` and storing v in it puts v in before slot i
 pub slots-open : (w b used : ℕ) (s : List ℕ) (i : ℕ) (v : List ℕ) → length v ≡ w → i ≤ used → b + (used + 1) * w ≤ length s
-    → slots w b (used + 1) (store (movedUp s (b + i * w) (b + used * w) w) (b + i * w) v) ≡ insertAt i v (slots w b used s)
+    → slots w b (used + 1) (store (moved s (b + i * w + w) (b + i * w) ((used - i) * w)) (b + i * w) v) ≡ insertAt i v (slots w b used s)
 slots-open w b used s i v long h inside =
-    rw (add-one used) (open-from w s v (b + i * w) (b + used * w) long (omega (arith, mul-le-mul-right w h)) (omega arith) i used b h refl refl)
+    let e = slots-width i used w h in
+    rw (add-one used) (open-from w s v (b + i * w) ((used - i) * w) long (omega arith) i used b h refl (omega arith))
 
--- a slot closed at place `from`, the slots behind it moved down
-module _ (w : ℕ) (s : List ℕ) (from to : ℕ) (ordered : from ≤ to) (inside : to + w ≤ length s) where
-  close-from : (i n b : ℕ) → i ≤ n → from ≡ b + i * w → to ≡ b + n * w → slots w b n (movedDown s from to w) ≡ removeAt i (slots w b (suc n) s)
+-- a slot closed at place q, the m bytes behind it moved down
+module _ (w : ℕ) (s : List ℕ) (q m : ℕ) (inside : q + m + w ≤ length s) where
+  abbrev closed : List ℕ
+  closed = moved s q (q + w) m
+
+  close-from : (i n b : ℕ) → i ≤ n → q ≡ b + i * w → q + m ≡ b + n * w → slots w b n closed ≡ removeAt i (slots w b (suc n) s)
   unfolding slots slotAt removeAt
-  close-from zero n b h ef et =
-      let d : b ≡ from = omega arith in
-      rw d (slots-same w n (same-first (n * w) (omega arith) (movedDown-moved s from to w ordered inside)) (omega (arith, length-movedDown s from to w)) (omega arith))
-  close-from (suc i) zero b h ef et = absurd (omega arith)
-  close-from (suc i) (suc n) b h ef et =
-      let e : b + 0 * w ≡ b = omega arith in
-      let first : take w (drop b (movedDown s from to w)) ≡ take w (drop b s) = part-same (movedDown-below s from to w ordered inside w b (omega arith)) (omega (arith, length-movedDown s from to w)) (omega arith) in
-      let others : slots w (b + w) n (movedDown s from to w) ≡ removeAt i (slots w (b + w) (suc n) s) = close-from i n (b + w) (omega arith) (omega arith) (omega arith) in
-      rw (e, first, others)
+  close-from zero n b h e f =
+      let d : b ≡ q = omega arith in
+      rw d (slots-same w n (same-first (n * w) (omega arith) (moved-at s q (q + w) m (omega arith) (omega arith))) (omega (arith, length-moved s q (q + w) m)) (omega arith))
+  close-from (suc i) zero b h e f = absurd (omega arith)
+  close-from (suc i) (suc n) b h e f =
+      let z : b + 0 * w ≡ b = omega arith in
+      let first : take w (drop b closed) ≡ take w (drop b s) = part-same (moved-below s q (q + w) m w b (omega arith)) (omega (arith, length-moved s q (q + w) m)) (omega arith) in
+      let others : slots w (b + w) n closed ≡ removeAt i (slots w (b + w) (suc n) s) = close-from i n (b + w) (omega arith) (omega arith) (omega arith) in
+      rw (z, first, others)
 
 -- closing slot i of `used` takes it out
 pub slots-close : (w b used : ℕ) (s : List ℕ) (i : ℕ) → i < used → b + used * w ≤ length s
-    → slots w b (used - 1) (movedDown s (b + i * w) (b + (used - 1) * w) w) ≡ removeAt i (slots w b used s)
+    → slots w b (used - 1) (moved s (b + i * w) (b + i * w + w) ((used - (i + 1)) * w)) ≡ removeAt i (slots w b used s)
 slots-close w b zero s i h inside = absurd (omega arith)
 slots-close w b (suc n) s i h inside =
-    let e : suc n - 1 ≡ n = omega arith in
+    let d : suc n - 1 ≡ n = omega arith in
+    let e : suc n - (i + 1) ≡ n - i = omega arith in
     let k : i ≤ n = omega arith in
-    rw e (close-from w s (b + i * w) (b + n * w) (omega (arith, mul-le-mul-right w k)) (omega arith) i n b k refl refl)
+    let f = slots-width i n w k in
+    rw (d, e) (close-from w s (b + i * w) ((n - i) * w) (omega arith) i n b k refl (omega arith))
 
 -- a store inside one slot
 module _ (w : ℕ) (s : List ℕ) (k : ℕ) (vs : List ℕ) (fits : k + length vs ≤ w) where

@@ -1,18 +1,13 @@
 -- Bytes that move inside a list, and a packed array of slots of one width in it. Assumes nothing.
-use Prim.Native.Nat.{ℕ, zero, suc, _+_, _-_, _*_}
+use Prim.Native.Nat.{ℕ, zero, suc, _+_, _*_}
 use mathlib.Core.List.{List, [], _∷_}
 use lib.ListN.{take, drop}
 use Rattle.model.specs.Lists.{store}
 
--- the list with its bytes at places from to before `to` stored w places above
-unfoldable pub movedUp : List ℕ → ℕ → ℕ → ℕ → List ℕ
+-- the list with its n bytes from place q on stored from place p on
+unfoldable pub moved : List ℕ → ℕ → ℕ → ℕ → List ℕ
 unfolding store
-movedUp s from to w = store s (from + w) (take (to - from) (drop from s))
-
--- the list with, at places from to before `to`, the bytes that stand w places above
-unfoldable pub movedDown : List ℕ → ℕ → ℕ → ℕ → List ℕ
-unfolding store
-movedDown s from to w = store s from (take (to - from) (drop (from + w) s))
+moved s p q n = store s p (take n (drop q s))
 
 -- the bytes of slot i, of slots of `width` bytes that stand one after the other from place base on
 unfoldable pub slotAt : ℕ → ℕ → List ℕ → ℕ → List ℕ

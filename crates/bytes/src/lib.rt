@@ -5,7 +5,7 @@ ghost use Prim.Native.Nat.{_+_, _-_, _*_, _<_, _≤_};
 ghost use lib.ListN.{length, getD};
 ghost use Rattle.model.specs.Lists.{store};
 ghost use Rattle.bytes.specs.Little.{le16, le32, signed32, le32s, bits32, bytes2, bytes4};
-ghost use Rattle.bytes.specs.Slots.{movedUp, movedDown};
+ghost use Rattle.bytes.specs.Slots.{moved};
 
 // The byte at p.
 pub fn get_u8(s: &[u8], p: usize) -> u32
@@ -99,26 +99,26 @@ pub fn put_i32(s: &mut [u8], p: usize, z: i32)
     put_u32(s, p, from_signed(z));
 }
 
-// Moves the bytes at places from to before `to` up by w places.
-fn move_up(s: &mut [u8], from: usize, to: usize, w: usize)
-    requires { ⌜ (from ≤ to) × (to + w ≤ length (now s)) ⌝ }
-    ensures { λ _. ⌜ now (s .exit) ≡ movedUp (now (s .entry)) from to w ⌝ }
+// Moves the n bytes from place q on up by w places.
+fn move_up(s: &mut [u8], q: usize, n: usize, w: usize)
+    requires { ⌜ q + n + w ≤ length (now s) ⌝ }
+    ensures { λ _. ⌜ now (s .exit) ≡ moved (now (s .entry)) (q + w) q n ⌝ }
 {
-    let mut j = to;
-    while from < j {
+    let mut j = n;
+    while 0 < j {
         j -= 1;
-        s[j + w] = s[j];
+        s[q + w + j] = s[q + j];
     }
 }
 
-// Moves the bytes that stand w places above from to before `to` down to it.
-fn move_down(s: &mut [u8], from: usize, to: usize, w: usize)
-    requires { ⌜ (from ≤ to) × (to + w ≤ length (now s)) ⌝ }
-    ensures { λ _. ⌜ now (s .exit) ≡ movedDown (now (s .entry)) from to w ⌝ }
+// Moves the n bytes that stand w places above place q down to it.
+fn move_down(s: &mut [u8], q: usize, n: usize, w: usize)
+    requires { ⌜ q + n + w ≤ length (now s) ⌝ }
+    ensures { λ _. ⌜ now (s .exit) ≡ moved (now (s .entry)) q (q + w) n ⌝ }
 {
-    let mut j = from;
-    while j < to {
-        s[j] = s[j + w];
+    let mut j = 0;
+    while j < n {
+        s[q + j] = s[q + w + j];
         j += 1;
     }
 }
@@ -126,19 +126,17 @@ fn move_down(s: &mut [u8], from: usize, to: usize, w: usize)
 // Of `used` slots of `width` bytes from base on, moves those from slot i on up by one slot.
 pub fn open_slot(s: &mut [u8], base: usize, width: usize, used: usize, i: usize)
     requires { ⌜ (i ≤ used) × (base + (used + 1) * width ≤ length (now s)) ⌝ }
-    ensures { λ _. ⌜ now (s .exit) ≡ movedUp (now (s .entry)) (base + i * width) (base + used * width) width ⌝ }
+    ensures { λ _. ⌜ now (s .exit) ≡ moved (now (s .entry)) (base + i * width + width) (base + i * width) ((used - i) * width) ⌝ }
 {
-    let from = base + i * width;
-    let to = base + used * width;
-    move_up(s, from, to, width);
+    let q = base + i * width;
+    move_up(s, q, (used - i) * width, width);
 }
 
 // Of `used` slots of `width` bytes from base on, moves those behind slot i down by one slot.
 pub fn close_slot(s: &mut [u8], base: usize, width: usize, used: usize, i: usize)
     requires { ⌜ (i < used) × (base + used * width ≤ length (now s)) ⌝ }
-    ensures { λ _. ⌜ now (s .exit) ≡ movedDown (now (s .entry)) (base + i * width) (base + (used - 1) * width) width ⌝ }
+    ensures { λ _. ⌜ now (s .exit) ≡ moved (now (s .entry)) (base + i * width) (base + i * width + width) ((used - (i + 1)) * width) ⌝ }
 {
-    let from = base + i * width;
-    let to = base + (used - 1) * width;
-    move_down(s, from, to, width);
+    let q = base + i * width;
+    move_down(s, q, (used - (i + 1)) * width, width);
 }

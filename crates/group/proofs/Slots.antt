@@ -42,15 +42,15 @@ pub length-slotsOf : (b : List ℕ) → length (slotsOf b) ≡ usedOf b
 unfolding slotsOf
 length-slotsOf b = length-from b 0 (usedOf b)
 
-getD-from : (b : List ℕ) (i n k : ℕ) (d : Slot) → k < n → getD (slotsFrom b i n) k d ≡ slotOf b (i + k)
+getD-from : (b : List ℕ) (i n k : ℕ) → k < n → getD (slotsFrom b i n) k noSlot ≡ slotOf b (i + k)
 unfolding slotsFrom
-getD-from b i zero k d h = absurd (omega arith)
-getD-from b i (suc n) zero d h = let e : i + 0 ≡ i = omega arith in rw e
-getD-from b i (suc n) (suc k) d h = let e : i + suc k ≡ suc i + k = omega arith in rw e (getD-from b (suc i) n k d (omega arith))
+getD-from b i zero k h = absurd (omega arith)
+getD-from b i (suc n) zero h = let e : i + 0 ≡ i = omega arith in rw e
+getD-from b i (suc n) (suc k) h = let e : i + suc k ≡ suc i + k = omega arith in rw e (getD-from b (suc i) n k (omega arith))
 
-pub getD-slotsOf : (b : List ℕ) (k : ℕ) (d : Slot) → k < usedOf b → getD (slotsOf b) k d ≡ slotOf b k
+pub getD-slotsOf : (b : List ℕ) (k : ℕ) → k < length (slotsOf b) → getD (slotsOf b) k noSlot ≡ slotOf b k
 unfolding slotsOf
-getD-slotsOf b k d h = let e : 0 + k ≡ k = omega arith in getD-from b 0 (usedOf b) k d h ∙ ap (slotOf b) e
+getD-slotsOf b k h = let e : 0 + k ≡ k = omega arith in getD-from b 0 (usedOf b) k (omega (arith, length-slotsOf b)) ∙ ap (slotOf b) e
 
 -- slots and owners that make a group
 pub record Coherent (l : List Slot) (w : ℕ → ℕ) : Type 0 where
@@ -112,4 +112,4 @@ module _ (b : List ℕ) (h : encodes b ≡ true) where
       ∙ slots-back (ownerOf b) (slotsOf b)
 
   pub slot-read : (k : ℕ) → k < usedOf b → getD (slotsFor (readGroup b)) k noSlot ≡ slotOf b k
-  slot-read k l = ap (λ (m : List Slot). getD m k noSlot) slots-read ∙ getD-slotsOf b k noSlot l
+  slot-read k l = ap (λ (m : List Slot). getD m k noSlot) slots-read ∙ getD-slotsOf b k (omega (arith, length-slotsOf b))

@@ -9,6 +9,7 @@ use Rattle.model.specs.Lists.{all}
 use Rattle.model.specs.Record.{Kind, single, accurate, approximate, kindOf, isApproximate}
 use Rattle.record.specs.declared.Record.{Record}
 use Rattle.group.specs.declared.Slot.{Slot}
+use Rattle.group.specs.Layout.{offsets}
 use Rattle.group.specs.Reading.{everyFrom}
 
 abbrev pub approx : Record → Bool
@@ -25,7 +26,7 @@ shapedAs (approximate a) span = leb a 256
 
 -- what soundness asks of a record's four numbers, in group k of N pages
 unfoldable pub shaped : ℕ → ℕ → Record → Bool
-shaped N k r = (leb (endOf r) 255 && ltb (256 * k + endOf r) N) && shapedAs (kindOf (r .word)) (r .span)
+shaped N k r = (leb (endOf r) 255 && ltb (offsets * k + endOf r) N) && shapedAs (kindOf (r .word)) (r .span)
 
 -- behind n levels, whose last is free from offset `from` on: a slot opens the next level or goes on with the last
 unfoldable pub inPlace : ℕ → ℕ → Slot → Bool
@@ -69,4 +70,4 @@ inRange T o (suc start) = leb start o && ltb o (getD T start 0)
 
 -- the pass over the owners
 abbrev pub ownersPass : (ℕ → ℕ) → List ℕ → Bool
-ownersPass w T = everyFrom (λ o. inRange T o (w o)) 256 0
+ownersPass w T = everyFrom (λ o. inRange T o (w o)) offsets 0

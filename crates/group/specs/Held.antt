@@ -8,7 +8,7 @@ use Rattle.model.specs.Record.{Record}
 use Rattle.model.specs.Levels.{Group, listing}
 use Rattle.record.specs.Read.{bare}
 use Rattle.group.specs.declared.Slot.{Slot}
-use Rattle.group.specs.Layout.{slotsOf, ownerOf}
+use Rattle.group.specs.Layout.{offsets, slotsOf, ownerOf}
 use Rattle.group.specs.Cutting.{Placed, flat}
 
 -- the slot that a record takes
@@ -26,4 +26,4 @@ ownerAmong o (r ∷ l) = elim (elem o (r .owned)) [ true ↦ suc (r .start) | fa
 
 pub record Held (b : List ℕ) (g : Group) : Type 0 where
   pub slots : slotsOf b ≡ slotsFor g
-  pub owners : (o : ℕ) → o < 256 → ownerOf b o ≡ ownerAmong o (listing g)
+  pub owners : (o : ℕ) → o < offsets → ownerOf b o ≡ ownerAmong o (listing g)

@@ -5,7 +5,7 @@ use Prim.Native.Nat.{ℕ, zero, suc, _+_, _*_}
 use lib.Dec.{eqb}
 use Rattle.bytes.specs.Little.{le16}
 use Rattle.record.specs.declared.Record.{Record}
-use Rattle.record.specs.Coding.{recordAt}
+use Rattle.record.specs.Coding.{recordWidth, recordAt}
 use Rattle.group.specs.declared.Slot.{Slot}
 
 -- the part `used`, and the part `owned`
@@ -25,13 +25,26 @@ slotWidth = 10
 abbrev pub slotPlace : ℕ → ℕ
 slotPlace i = slotsPlace + i * slotWidth
 
--- the level stands behind the record's eight bytes
+-- the level stands behind the record
+abbrev pub levelInSlot : ℕ
+levelInSlot = recordWidth
+
 abbrev pub levelPlace : ℕ → ℕ
-levelPlace i = slotPlace i + 8
+levelPlace i = slotPlace i + levelInSlot
+
+-- "A logical page's group is its number divided by 256, its offset the remainder": how many offsets a group has
+abbrev pub offsets : ℕ
+offsets = 256
 
 -- "owner of offset o in the 2 bytes at 5,124 + 2 × o"
+abbrev pub ownersPlace : ℕ
+ownersPlace = 5124
+
+abbrev pub ownerWidth : ℕ
+ownerWidth = 2
+
 abbrev pub ownerPlace : ℕ → ℕ
-ownerPlace o = 5124 + o * 2
+ownerPlace o = ownersPlace + o * ownerWidth
 
 -- "how many slots are used"
 unfoldable pub usedOf : List ℕ → ℕ

@@ -10,12 +10,12 @@ use Rattle.model.specs.Record.{Kind, single, accurate, approximate, kindOf, isA
 use Rattle.model.specs.Levels.{Group, groupLimit}
 use Rattle.record.specs.Read.{asRecord}
 use Rattle.group.specs.declared.Slot.{Slot}
-use Rattle.group.specs.Layout.{slotsOf, ownerOf}
+use Rattle.group.specs.Layout.{offsets, slotsOf, ownerOf}
 use Rattle.group.specs.Cutting.{Placed, climbs, cut}
 
 -- the offsets whose owner, by w, names this start, ascending
 unfoldable pub ownedBy : (ℕ → ℕ) → ℕ → List ℕ
-ownedBy w start = select (λ o. eqb (w o) (suc start)) 256 0
+ownedBy w start = select (λ o. eqb (w o) (suc start)) offsets 0
 
 -- "An approximate record then owns, ascending, the offsets whose owner names its start; every other record owns none."
 unfoldable pub ownedAs : Kind → (ℕ → ℕ) → ℕ → List ℕ
@@ -53,7 +53,7 @@ unfoldable pub coherent : List Slot → (ℕ → ℕ) → Bool
 coherent l w =
     leb (length l) groupLimit
     && climbs 0 (map (placedOf w) l)
-    && everyFrom (λ o. known l (w o)) 256 0
+    && everyFrom (λ o. known l (w o)) offsets 0
 
 -- "Bytes that encode no group are read as a group with one empty level, which is not sound"
 unfoldable pub groupOr : Bool → List Slot → (ℕ → ℕ) → Group

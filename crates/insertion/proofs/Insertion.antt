@@ -108,8 +108,8 @@ gives-same t u h (s ∷ l) =
     ∙ ap (keepSlot (s .level) (given u (s .item))) (gives-same t u h l)
 
 -- slots renumbered are the slots of the list renumbered
-settle-map : (o n : ℕ) (l : List Placed) → edits.settle o n (map slotFor l) ≡ map slotFor (settle o n l)
-unfolding edits.settle settle renumbered renumber
+settle-map : (o n : ℕ) (l : List Placed) → edits.renumberLevels o n (map slotFor l) ≡ map slotFor (settle o n l)
+unfolding edits.renumberLevels settle renumbered renumber
 settle-map o n [] = refl
 settle-map o n (s ∷ l) = ap (λ (k : List Slot). slotFor (slot (renumber o n (s .level)) (s .item)) ∷ k) (settle-map (s .level) (renumber o n (s .level)) l)
 
@@ -219,10 +219,10 @@ module _ (b m : List ℕ) (r : Record) (q : Ready b m r) where
         gives-same (masked m) (member R) (q .members) (flat (q .group)) ∙ giveUp-flat (member R) (q .group) ∙ ap flat all-give
 
     -- An approximate one: the others have given up, and the levels are numbered anew.
-    pub parted-slope : (c d : List ℕ) → Shown c (giveUpSlots (masked m) (flat (q .group))) → Shows d (edits.settle 0 0 (slotsOf c)) (ownerOf c) → Parted d m r
+    pub parted-slope : (c d : List ℕ) → Shown c (giveUpSlots (masked m) (flat (q .group))) → Shows d (edits.renumberLevels 0 0 (slotsOf c)) (ownerOf c) → Parted d m r
     parted-slope c d shown settled =
         let before : Shown c (flat given-up) = subst (Shown c) gave shown in
-        let after : Shown d (settle 0 0 (flat given-up)) = shown-settle c (flat given-up) before d (settled .0, settled .1 ∙ ap (edits.settle 0 0) (before .slots) ∙ settle-map 0 0 (flat given-up), settled .2) in
+        let after : Shown d (settle 0 0 (flat given-up)) = shown-settle c (flat given-up) before d (settled .0, settled .1 ∙ ap (edits.renumberLevels 0 0) (before .slots) ∙ settle-map 0 0 (flat given-up), settled .2) in
         record {
           top = top;
           rest = rest;
@@ -232,7 +232,7 @@ module _ (b m : List ℕ) (r : Record) (q : Ready b m r) where
           members = q .members;
         }
 
-    pub turned-slope : (c d e : List ℕ) → Shown c (giveUpSlots (masked m) (flat (q .group))) → Shows d (edits.settle 0 0 (slotsOf c)) (ownerOf c)
+    pub turned-slope : (c d e : List ℕ) → Shown c (giveUpSlots (masked m) (flat (q .group))) → Shows d (edits.renumberLevels 0 0 (slotsOf c)) (ownerOf c)
         → ((p : Parted d m r) → Shown e (flat (stayers (asRecord r (p .owned)) (p .top) ∷ sinkAll (sinkers (asRecord r (p .owned)) (p .top)) (p .rest)))) → Shown e turned
     unfolding parted-slope
     turned-slope c d e shown settled f = f (parted-slope c d shown settled)

@@ -21,7 +21,7 @@ use Rattle.group.specs.Cutting.{Placed}
 use Rattle.group.specs.Held.{slotFor}
 use Rattle.group.specs.Answers as answers
 use Rattle.slots.specs.View.{Shows}
-use Rattle.slots.specs.Edits.{raised, raiseFrom}
+use Rattle.slots.specs.Edits.{pushedDown, pushDownFrom}
 use Rattle.slots.proofs.Maps.{map-insertAt, map-removeAt}
 use Rattle.insertion.specs.Slots.{slot, noSlot, heldAt, records, zeros, standsBefore, place, meetsAt, deepenFrom}
 use Rattle.insertion.specs.InsertSlots.{sinkSlots, topSlots}
@@ -30,11 +30,11 @@ use Rattle.insertion.proofs.ListWrites.{all-remove}
 use Rattle.insertion.proofs.Steps.{shown-length, shown-slot, shown-sink}
 
 -- slots one level deeper
-raise-deepen : (i : ℕ) (l : List Placed) → raiseFrom i (map slotFor l) ≡ map slotFor (deepenFrom i l)
-unfolding raiseFrom deepenFrom
-raise-deepen i [] = refl
-raise-deepen zero (s ∷ l) = ap (λ (m : List Slot). raised (slotFor s) ∷ m) (raise-deepen zero l)
-raise-deepen (suc i) (s ∷ l) = ap (λ (m : List Slot). slotFor s ∷ m) (raise-deepen i l)
+push-deepen : (i : ℕ) (l : List Placed) → pushDownFrom i (map slotFor l) ≡ map slotFor (deepenFrom i l)
+unfolding pushDownFrom deepenFrom
+push-deepen i [] = refl
+push-deepen zero (s ∷ l) = ap (λ (m : List Slot). pushedDown (slotFor s) ∷ m) (push-deepen zero l)
+push-deepen (suc i) (s ∷ l) = ap (λ (m : List Slot). slotFor s ∷ m) (push-deepen i l)
 
 -- behind all records of level 0: the place of one that starts at 255
 pub place-zeros : (x : model.Record) (l : List Placed) → 255 ≡ x .start → all (soundRecord 256 0) (records l) ≡ true → place 0 x l ≡ zeros l
@@ -71,16 +71,16 @@ zeros-of b z at l shown = at l (startsAt 255) (shown .slots) refl ∙ place-zero
 module _ (b : List ℕ) (r : Record) (t : Bool) (meet : (l : List Placed) (L : List ℕ) → slotsOf b ≡ map slotFor l → t ≡ meetsAt 1 (asRecord r L) l) where
   -- A record that meets another of level 1 gets a new level.
   pub sink-between : t ≡ true → (z : ℕ) → ((l : List Placed) (x : model.Record) → slotsOf b ≡ map slotFor l → 255 ≡ x .start → z ≡ place 0 x l)
-      → (c d : List ℕ) → Shows c (raiseFrom z (slotsOf b)) (ownerOf b) → Shows d (insertAt z (record { level = 1; held = r }) (slotsOf c)) (ownerOf c)
+      → (c d : List ℕ) → Shows c (pushDownFrom z (slotsOf b)) (ownerOf b) → Shows d (insertAt z (record { level = 1; held = r }) (slotsOf c)) (ownerOf c)
       → (l : List Placed) (L : List ℕ) → slotsOf b ≡ map slotFor l → all (soundRecord 256 0) (records l) ≡ true → Shows d (map slotFor (sinkSlots (asRecord r L) l)) (ownerOf b)
   unfolding sinkSlots
-  sink-between y z at c d raise put l L e a =
+  sink-between y z at c d pushed put l L e a =
       let m : meetsAt 1 (asRecord r L) l ≡ true = sym (meet l L e) ∙ y in
       let q : z ≡ zeros l = at l (startsAt 255) e refl ∙ place-zeros (startsAt 255) l refl a in
-      let k : slotsOf c ≡ map slotFor (deepenFrom z l) = raise .1 ∙ ap (raiseFrom z) e ∙ raise-deepen z l in
+      let k : slotsOf c ≡ map slotFor (deepenFrom z l) = pushed .1 ∙ ap (pushDownFrom z) e ∙ push-deepen z l in
       let s : slotsOf d ≡ map slotFor (insertAt z (slot 1 (asRecord r L)) (deepenFrom z l)) = put .1 ∙ ap (insertAt z (record { level = 1; held = r })) k ∙ sym (map-insertAt slotFor z (slot 1 (asRecord r L)) (deepenFrom z l)) in
       let f : insertAt z (slot 1 (asRecord r L)) (deepenFrom z l) ≡ sinkSlots (asRecord r L) l = rw (m, sinkSlots, q) refl in
-      (put .0, s ∙ ap (map slotFor) f, λ o h. put .2 o h ∙ raise .2 o h)
+      (put .0, s ∙ ap (map slotFor) f, λ o h. put .2 o h ∙ pushed .2 o h)
 
   -- One that meets none goes into level 1.
   pub sink-there : t ≡ false → (z : ℕ) → ((l : List Placed) (x : model.Record) → slotsOf b ≡ map slotFor l → r .start ≡ x .start → z ≡ place 1 x l)
@@ -117,12 +117,12 @@ lower-shown b c d i s h is before sunk l shown =
     let g : slotsOf d ≡ map slotFor (sinkSlots (heldAt i l) (removeAt i l)) = f .1 ∙ ap (λ (y : model.Record). map slotFor (sinkSlots y (removeAt i l))) e in
     shown-sink b l shown i k d (f .0) (f .0, g, λ o j. f .2 o j ∙ before .2 o j)
 
-raised-length : (z : ℕ) (k : List Slot) → length (raiseFrom z k) ≡ length k
-unfolding raiseFrom
-raised-length z [] = refl
-raised-length zero (s ∷ k) = ap suc (raised-length zero k)
-raised-length (suc z) (s ∷ k) = ap suc (raised-length z k)
+pushed-length : (z : ℕ) (k : List Slot) → length (pushDownFrom z k) ≡ length k
+unfolding pushDownFrom
+pushed-length z [] = refl
+pushed-length zero (s ∷ k) = ap suc (pushed-length zero k)
+pushed-length (suc z) (s ∷ k) = ap suc (pushed-length z k)
 
 -- Slots one level deeper are as many.
-pub raise-length : (z : ℕ) (k m : List Slot) → m ≡ raiseFrom z k → length m ≡ length k
-raise-length z k m e = ap (λ (n : List Slot). length n) e ∙ raised-length z k
+pub push-length : (z : ℕ) (k m : List Slot) → m ≡ pushDownFrom z k → length m ≡ length k
+push-length z k m e = ap (λ (n : List Slot). length n) e ∙ pushed-length z k

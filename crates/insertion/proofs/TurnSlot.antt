@@ -23,7 +23,7 @@ use Rattle.group.specs.Layout.{slotsOf}
 use Rattle.group.specs.Cutting.{Placed}
 use Rattle.group.specs.Held.{slotFor}
 use Rattle.group.specs.Answers as answers
-use Rattle.slots.specs.Edits.{canRise}
+use Rattle.slots.specs.Edits.{canGoDown}
 use Rattle.slots.proofs.Maps.{map-set}
 use Rattle.insertion.specs.Slots.{slot, noSlot, heldAt, keepAt}
 use Rattle.insertion.specs.InsertSlots.{sinkSlots, turn, turnNext}
@@ -35,9 +35,9 @@ use Rattle.insertion.proofs.Steps.{shown-length, shown-slot}
 use Rattle.insertion.proofs.Turns.{fate-beside, fate-gone, fate-left, fate-lower}
 
 -- a slot of level 0 can go down
-rise-zero : (w : model.Record) (n : ℕ) → n ≡ 0 → canRise (slotFor (slot n w)) ≡ true
-unfolding canRise
-rise-zero w n z = rw z refl
+down-zero : (w : model.Record) (n : ℕ) → n ≡ 0 → canGoDown (slotFor (slot n w)) ≡ true
+unfolding canGoDown
+down-zero w n z = rw z refl
 
 -- an element set and then taken out
 remove-set : {A : Type 0} (i : ℕ) (l : List A) (x : A) → removeAt i (set l i x) ≡ removeAt i l
@@ -131,16 +131,16 @@ module _ (b : List ℕ) (i : ℕ) (s : Slot) (r : Record) (m : List ℕ) (h : i 
           rw f (subst (Shown d) g (lower (set l i (slot 0 (w .rest))) (w .after)), refl)
 
     -- what `lower` asks
-    pub lower-ready : (u : Record) → x ≡ Kept u → Tidy b → all canRise (slotsOf b) ≡ true → Tidy c × (i < length (slotsOf c)) × (all canRise (slotsOf c) ≡ true)
+    pub lower-ready : (u : Record) → x ≡ Kept u → Tidy b → all canGoDown (slotsOf b) ≡ true → Tidy c × (i < length (slotsOf c)) × (all canGoDown (slotsOf c) ≡ true)
     unfolding keepAt leftOf
     lower-ready u q tidy low = go (shrink (masked m) (heldAt i (tidy .list))) (ap leftOf (sym q) ∙ shrunk (tidy .list) (tidy .shown) .1) (shrunk (tidy .list) (tidy .shown) .0)
       where
-        go : (y : Option model.Record) → some u ≡ Option·map bare y → Shown c (keepAt i (getD (tidy .list) i noSlot .level) y (tidy .list)) → Tidy c × (i < length (slotsOf c)) × (all canRise (slotsOf c) ≡ true)
+        go : (y : Option model.Record) → some u ≡ Option·map bare y → Shown c (keepAt i (getD (tidy .list) i noSlot .level) y (tidy .list)) → Tidy c × (i < length (slotsOf c)) × (all canGoDown (slotsOf c) ≡ true)
         go none p a = let z : _≡_ {A = ℕ} 0 1 = cc in absurd (omega arith)
         go (some w) p a =
             let e : slotsOf c ≡ set (slotsOf b) i (slotFor (slot (getD (tidy .list) i noSlot .level) w)) = a .slots ∙ map-set slotFor (tidy .list) i (slot (getD (tidy .list) i noSlot .level) w) ∙ ap (λ (k : List Slot). set k i (slotFor (slot (getD (tidy .list) i noSlot .level) w))) (sym (tidy .shown .slots)) in
             let z : getD (tidy .list) i noSlot .level ≡ 0 = level-is (tidy .list) [] (tidy .shown) in (
               record { list = set (tidy .list) i (slot (getD (tidy .list) i noSlot .level) w); shown = a },
               omega (arith, ap (λ (k : List Slot). length k) e, length-set (slotsOf b) i (slotFor (slot (getD (tidy .list) i noSlot .level) w))),
-              ap (all canRise) e ∙ all-set canRise (slotsOf b) i (slotFor (slot (getD (tidy .list) i noSlot .level) w)) (rise-zero w (getD (tidy .list) i noSlot .level) z) low,
+              ap (all canGoDown) e ∙ all-set canGoDown (slotsOf b) i (slotFor (slot (getD (tidy .list) i noSlot .level) w)) (down-zero w (getD (tidy .list) i noSlot .level) z) low,
             )

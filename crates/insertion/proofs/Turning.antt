@@ -17,7 +17,7 @@ use Rattle.group.specs.Layout.{slotsOf}
 use Rattle.group.specs.Cutting.{Placed, flatFrom, flat}
 use Rattle.group.specs.Held.{slotFor}
 use Rattle.group.specs.Answers as answers
-use Rattle.slots.specs.Edits.{canRise}
+use Rattle.slots.specs.Edits.{canGoDown}
 use Rattle.insertion.specs.Flat.{tag}
 use Rattle.insertion.specs.Slots.{slot, noSlot, heldAt, place}
 use Rattle.insertion.specs.InsertSlots.{turn, turnNext}
@@ -28,15 +28,15 @@ use Rattle.insertion.proofs.Sinking.{zeros-of}
 use Rattle.insertion.proofs.Steps.{shown-length, shown-slot}
 use Rattle.insertion.proofs.Turns.{turn-step, turn-next}
 
-low-slot : (n : ℕ) (r : model.Record) → n < 65535 → canRise (slotFor (slot n r)) ≡ true
-unfolding canRise
+low-slot : (n : ℕ) (r : model.Record) → n < 65535 → canGoDown (slotFor (slot n r)) ≡ true
+unfolding canGoDown
 low-slot n r h = lt-ltb n 65535 h
 
-low-tag : (n : ℕ) (l : Level) (q : List Placed) → n < 65535 → all canRise (map slotFor q) ≡ true → all canRise (map slotFor (tag n l ++ q)) ≡ true
+low-tag : (n : ℕ) (l : Level) (q : List Placed) → n < 65535 → all canGoDown (map slotFor q) ≡ true → all canGoDown (map slotFor (tag n l ++ q)) ≡ true
 low-tag n [] q h a = a
-low-tag n (r ∷ l) q h a = all-cons canRise (slotFor (slot n r)) (map slotFor (tag n l ++ q)) (low-slot n r h) (low-tag n l q h a)
+low-tag n (r ∷ l) q h a = all-cons canGoDown (slotFor (slot n r)) (map slotFor (tag n l ++ q)) (low-slot n r h) (low-tag n l q h a)
 
-low-from : (n : ℕ) (g : Group) → all isFilled g ≡ true → n + length (flatFrom n g) ≤ 65535 → all canRise (map slotFor (flatFrom n g)) ≡ true
+low-from : (n : ℕ) (g : Group) → all isFilled g ≡ true → n + length (flatFrom n g) ≤ 65535 → all canGoDown (map slotFor (flatFrom n g)) ≡ true
 unfolding flatFrom isFilled all
 low-from n [] f h = refl
 low-from n ([] ∷ g) f h = absurd (true≢false (sym (all-head isFilled [] g f)))
@@ -45,12 +45,12 @@ low-from n ((r ∷ l) ∷ g) f h =
     low-tag n (r ∷ l) (flatFrom (suc n) g) (omega arith) (low-from (suc n) g (all-tail isFilled (r ∷ l) g f) (omega (arith, k)))
 
 -- levels without gaps below a first one can all go down
-group-low : (t : List ℕ) (l : Level) (g : Group) → Shown t (flat (l ∷ g)) → all isFilled g ≡ true → all canRise (slotsOf t) ≡ true
+group-low : (t : List ℕ) (l : Level) (g : Group) → Shown t (flat (l ∷ g)) → all isFilled g ≡ true → all canGoDown (slotsOf t) ≡ true
 unfolding flatFrom
 group-low t l g shown f =
     let k = length-append (tag 0 l) (flatFrom 1 g) in
     let r : length (tag 0 l ++ flatFrom 1 g) ≤ 512 = shown .room in
-    ap (all canRise) (shown .slots) ∙ low-tag 0 l (flatFrom 1 g) (omega arith) (low-from 1 g f (omega (arith, k, r)))
+    ap (all canGoDown) (shown .slots) ∙ low-tag 0 l (flatFrom 1 g) (omega arith) (low-from 1 g f (omega (arith, k, r)))
 
 -- k records of level 0 have their turn still, the first of them in slot i
 pub record Turning (r : model.Record) (top : Level) (rest : Group) (t : List ℕ) (k i : ℕ) : Type 0 where
@@ -69,11 +69,11 @@ module _ (r : model.Record) (top : Level) (rest : Group) where
 
   -- what a turn asks
   pub turning-ready : (t : List ℕ) (k i : ℕ) → 0 < k → all isFilled rest ≡ true → Turning r top rest t k i
-      → Tidy t × (i < length (slotsOf t)) × (getD (slotsOf t) i answers.noSlot .level ≡ 0) × (all canRise (slotsOf t) ≡ true)
+      → Tidy t × (i < length (slotsOf t)) × (getD (slotsOf t) i answers.noSlot .level ≡ 0) × (all canGoDown (slotsOf t) ≡ true)
   turning-ready t k i h f g = go (g .left) (g .shown) (g .count)
     where
       go : (b : Level) → Shown t (flat ((stayers r (g .done) ++ b) ∷ sinkAll (sinkers r (g .done)) rest)) → k ≡ length b
-          → Tidy t × (i < length (slotsOf t)) × (getD (slotsOf t) i answers.noSlot .level ≡ 0) × (all canRise (slotsOf t) ≡ true)
+          → Tidy t × (i < length (slotsOf t)) × (getD (slotsOf t) i answers.noSlot .level ≡ 0) × (all canGoDown (slotsOf t) ≡ true)
       go [] shown count = absurd (omega arith)
       go (v ∷ b) shown count =
           let inside = flat-inside (stayers r (g .done)) v b (sinkAll (sinkers r (g .done)) rest) in

@@ -21,7 +21,7 @@ ghost use Rattle.group.specs.Cutting.{Placed, flat};
 ghost use Rattle.group.specs.Held.{slotFor, Held};
 ghost use Rattle.group.specs.Reading.{readGroup};
 ghost use Rattle.slots.specs.View.{Room, Shows};
-ghost use Rattle.slots.specs.Edits.{canRise};
+ghost use Rattle.slots.specs.Edits.{canGoDown};
 ghost use Rattle.bytes.specs.Slots.{removeAt};
 ghost use Rattle.group.specs.Answers as answers;
 ghost use Rattle.model.specs.Device.{groupLength};
@@ -191,12 +191,12 @@ fn give_up_all(b: &mut [u8], taken: &[u8])
 
 // Puts r at level 1 if it meets nothing there, otherwise on a new level 1 of its own.
 fn sink_in(b: &mut [u8], r: Record)
-    requires { ⌜ (length (now b) ≡ groupLength) × (length (slotsOf (now b)) < 512) × InEight r × (all canRise (slotsOf (now b)) ≡ true) ⌝ }
+    requires { ⌜ (length (now b) ≡ groupLength) × (length (slotsOf (now b)) < 512) × InEight r × (all canGoDown (slotsOf (now b)) ≡ true) ⌝ }
     ensures { λ _. ⌜ ((l : List Placed) (L : List ℕ) → slotsOf (now (b .entry)) ≡ map slotFor l → all (soundRecord 256 0) (records l) ≡ true → Shows (now (b .exit)) (map slotFor (sinkSlots (asRecord r L) l)) (ownerOf (now (b .entry)))) ⌝ }
 {
     if meets_at(b, 1, r) {
         let z = place_of(b, 0, 255);
-        slots::raise(b, z);
+        slots::push_down(b, z);
         slots::insert(b, z, Slot { level: 1, held: r });
         return;
     }
@@ -207,7 +207,7 @@ fn sink_in(b: &mut [u8], r: Record)
 
 // Moves the record of slot i down to level 1.
 fn lower(b: &mut [u8], i: u32)
-    requires { ⌜ Tidy (now b) × (i < length (slotsOf (now b))) × (all canRise (slotsOf (now b)) ≡ true) ⌝ }
+    requires { ⌜ Tidy (now b) × (i < length (slotsOf (now b))) × (all canGoDown (slotsOf (now b)) ≡ true) ⌝ }
     ensures { λ _. ⌜ ((l : List Placed) → Shown (now (b .entry)) l → Shown (now (b .exit)) (sinkSlots (heldAt i l) (removeAt i l))) ⌝ }
 {
     let s = slots::get(b, i);
@@ -218,7 +218,7 @@ fn lower(b: &mut [u8], i: u32)
 
 // Slot i of level 0 meets its fate under r, whose members the mask has. Answers the index of the slot that is next.
 fn turn(b: &mut [u8], i: u32, r: Record, mask: &[u8]) -> u32
-    requires { ⌜ Tidy (now b) × (i < length (slotsOf (now b))) × (getD (slotsOf (now b)) i answers.noSlot .level ≡ 0) × (length (now mask) ≡ 256) × (all canRise (slotsOf (now b)) ≡ true) ⌝ }
+    requires { ⌜ Tidy (now b) × (i < length (slotsOf (now b))) × (getD (slotsOf (now b)) i answers.noSlot .level ≡ 0) × (length (now mask) ≡ 256) × (all canGoDown (slotsOf (now b)) ≡ true) ⌝ }
     ensures { λ x. ⌜ ((l : List Placed) (L : List ℕ) → Shown (now (b .entry)) l → Masks (now (mask .entry)) (asRecord r L) → Shown (now (b .exit)) (turn (fate (asRecord r L) (heldAt i l)) i l) × (x ≡ turnNext (fate (asRecord r L) (heldAt i l)) i)) ⌝ }
 {
     let s = slots::get(b, i);
@@ -270,7 +270,7 @@ pub fn insert(b: &mut [u8], r: Record, mask: &[u8])
 {
     if r.is_approximate() {
         give_up_all(b, mask);
-        slots::settle(b);
+        slots::renumber_levels(b);
         victims(b, r, mask);
         top(b, r);
         let start = r.start;

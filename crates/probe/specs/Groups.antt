@@ -12,8 +12,9 @@ use Rattle.model.specs.Record.{covers, member}
 use Rattle.model.specs.Levels.{listing, recordCount, holder, levelsTo, insert, compact, groupLimit}
 use Rattle.model.specs.Sound.{soundRecord, soundGroup}
 use Rattle.record.specs.declared.Record.{Record}
-use Rattle.record.specs.Coding.{recordAt}
+use Rattle.record.specs.Coding.{recordWidth, recordAt}
 use Rattle.record.specs.Scan.{masked}
+use Rattle.group.specs.Layout.{offsets}
 use Rattle.group.specs.Reading.{readGroup, everyFrom, recordOf}
 use Rattle.group.specs.Checking.{endOf}
 
@@ -34,9 +35,9 @@ bit false = 0
 unfoldable pub soundness : List ℕ → ℕ → ℕ → ℕ
 soundness b n k = answerIf (eqb (length b) groupLength && leb k 4096) (bit (soundGroup n k (readGroup b)))
 
--- the bytes are a sound group 0 of 256 logical pages
+-- the bytes are a sound group 0, with all its logical pages
 unfoldable pub isSound : List ℕ → Bool
-isSound b = eqb (length b) groupLength && soundGroup 256 0 (readGroup b)
+isSound b = eqb (length b) groupLength && soundGroup offsets 0 (readGroup b)
 
 -- the places of a search's values
 abbrev pub bit16 : ℕ
@@ -53,9 +54,9 @@ unfoldable pub hit : Option model.Record → ℕ → ℕ
 hit none n = n * bit40
 hit (some r) n = bit56 + n * bit40 + r .start * bit16 + r .word
 
--- The first record that has offset o, and the levels looked at; asked of a sound group, for an o below 256.
+-- The first record that has offset o, and the levels looked at; asked of a sound group, for one of its offsets.
 unfoldable pub finding : List ℕ → ℕ → ℕ
-finding b o = answerIf (isSound b && ltb o 256) (hit (holder o (listing (readGroup b))) (levelsTo o (readGroup b)))
+finding b o = answerIf (isSound b && ltb o offsets) (hit (holder o (listing (readGroup b))) (levelsTo o (readGroup b)))
 
 -- The group compacted, and its records left; asked of a sound group.
 unfoldable pub Compacts : Bool → List ℕ → List ℕ → ℕ → Type 0
@@ -80,15 +81,15 @@ marks m r o = eqb (getD m o 0) (bit (member (recordBy m r) o))
 
 -- the record is one that a sound group may have, and the mask has its members
 unfoldable pub fitting : List ℕ → Record → Bool
-fitting m r = soundRecord 256 0 (recordBy m r) && everyFrom (marks m r) 256 0
+fitting m r = soundRecord offsets 0 (recordBy m r) && everyFrom (marks m r) offsets 0
 
--- a sound group with fewer than 512 records
+-- a sound group that isn't full
 unfoldable pub hasRoom : List ℕ → Bool
 hasRoom b = isSound b && ltb (recordCount (readGroup b)) groupLimit
 
--- a record's eight bytes and a mask of 256 for it
+-- a record's bytes and a mask for it
 unfoldable pub insertable : List ℕ → List ℕ → List ℕ → Bool
-insertable b e m = hasRoom b && eqb (length e) 8 && eqb (length m) 256 && fitting m (recordAt e 0)
+insertable b e m = hasRoom b && eqb (length e) recordWidth && eqb (length m) offsets && fitting m (recordAt e 0)
 
 -- The record inserted, and the records after; asked of an insertable one.
 unfoldable pub Inserts : Bool → List ℕ → List ℕ → List ℕ → List ℕ → ℕ → Type 0

@@ -5,13 +5,12 @@ ghost use mathlib.Core.Path.{_≡_};
 ghost use Prim.Native.Nat.{_+_, _≤_, _<_};
 ghost use lib.ListN.{length};
 ghost use Rattle.record.specs.Coding.{InEight};
+ghost use Rattle.group.specs.Layout.{offsets};
 ghost use Rattle.group.specs.Reading.{everyFrom};
 ghost use Rattle.group.specs.Checking.{approx};
 ghost use Rattle.probe.specs.Groups.{soundness, isSound, finding, Compacts, marked, endsMarked, fitting, hasRoom, insertable, Inserts};
 
 const OUTSIDE: u64 = 18446744073709551615;
-
-const GROUP: usize = 5636;
 
 // The places of a search's values.
 const BIT16: u64 = 65536;
@@ -25,7 +24,7 @@ const BIT56: u64 = 72057594037927936;
 pub extern "C" fn probe_group_sound(part: &[u8], n: u32, k: u32) -> u64
     ensures { λ r. ⌜ r ≡ soundness (now (part .entry)) n k ⌝ }
 {
-    if part.len() != GROUP {
+    if part.len() != group::GROUP_BYTES {
         return OUTSIDE;
     }
     if 4096 < k {
@@ -37,14 +36,14 @@ pub extern "C" fn probe_group_sound(part: &[u8], n: u32, k: u32) -> u64
     0
 }
 
-// Whether the bytes are a sound group 0 of 256 logical pages.
+// Whether the bytes are a sound group 0, with all its logical pages.
 fn is_sound(part: &[u8]) -> bool
     ensures { λ t. ⌜ t ≡ isSound (now (part .entry)) ⌝ }
 {
-    if part.len() != GROUP {
+    if part.len() != group::GROUP_BYTES {
         return false;
     }
-    group::sound(part, 256, 0)
+    group::sound(part, group::OFFSETS, 0)
 }
 
 // Where offset o is found.
@@ -55,7 +54,7 @@ pub extern "C" fn probe_group_find(part: &[u8], o: u32) -> u64
     if !is_sound(part) {
         return OUTSIDE;
     }
-    if 256 <= o {
+    if group::OFFSETS <= o {
         return OUTSIDE;
     }
     let hit = group::find(part, o);
@@ -78,7 +77,7 @@ pub extern "C" fn probe_group_compact(part: &mut [u8]) -> u64
 
 // Whether the mask's byte at offset o is as the record says.
 fn marked(r: Record, mask: &[u8], o: u32) -> bool
-    requires { ⌜ (length (now mask) ≡ 256) × (o < 256) ⌝ }
+    requires { ⌜ (length (now mask) ≡ offsets) × (o < offsets) ⌝ }
     ensures { λ t. ⌜ t ≡ marked (now (mask .entry)) r o ⌝ }
 {
     let byte = mask[o as usize];
@@ -96,11 +95,11 @@ fn marked(r: Record, mask: &[u8], o: u32) -> bool
 
 // Whether each byte is.
 fn all_marked(r: Record, mask: &[u8]) -> bool
-    requires { ⌜ length (now mask) ≡ 256 ⌝ }
-    ensures { λ t. ⌜ t ≡ everyFrom (marked (now (mask .entry)) r) 256 0 ⌝ }
+    requires { ⌜ length (now mask) ≡ offsets ⌝ }
+    ensures { λ t. ⌜ t ≡ everyFrom (marked (now (mask .entry)) r) offsets 0 ⌝ }
 {
     let mut o = 0;
-    while o < 256 {
+    while o < group::OFFSETS {
         if !marked(r, mask, o) {
             return false;
         }
@@ -111,7 +110,7 @@ fn all_marked(r: Record, mask: &[u8]) -> bool
 
 // Whether the mask has an approximate record's first and last offset.
 fn ends_marked(r: Record, mask: &[u8]) -> bool
-    requires { ⌜ (length (now mask) ≡ 256) × (r .start + r .span ≤ 255) ⌝ }
+    requires { ⌜ (length (now mask) ≡ offsets) × (r .start + r .span ≤ 255) ⌝ }
     ensures { λ t. ⌜ t ≡ endsMarked (approx r) (now (mask .entry)) r ⌝ }
 {
     if !r.is_approximate() {
@@ -127,10 +126,10 @@ fn ends_marked(r: Record, mask: &[u8]) -> bool
 
 // Whether the record is one that a sound group may have, and the mask has its members.
 fn fits(r: Record, mask: &[u8]) -> bool
-    requires { ⌜ (length (now mask) ≡ 256) × InEight r ⌝ }
+    requires { ⌜ (length (now mask) ≡ offsets) × InEight r ⌝ }
     ensures { λ t. ⌜ t ≡ fitting (now (mask .entry)) r ⌝ }
 {
-    if !group::shaped(r, 256, 0) {
+    if !group::shaped(r, group::OFFSETS, 0) {
         return false;
     }
     if !ends_marked(r, mask) {
@@ -139,14 +138,14 @@ fn fits(r: Record, mask: &[u8]) -> bool
     all_marked(r, mask)
 }
 
-// Whether the bytes are a sound group with fewer than 512 records.
+// Whether the bytes are a sound group that isn't full.
 fn has_room(part: &[u8]) -> bool
     ensures { λ t. ⌜ t ≡ hasRoom (now (part .entry)) ⌝ }
 {
     if !is_sound(part) {
         return false;
     }
-    group::record_count(part) < 512
+    group::record_count(part) < group::SLOTS
 }
 
 // Whether the record in the eight bytes can be inserted.
@@ -156,10 +155,10 @@ fn may_insert(part: &[u8], eight: &[u8], mask: &[u8]) -> bool
     if !has_room(part) {
         return false;
     }
-    if eight.len() != 8 {
+    if eight.len() != record::RECORD_BYTES {
         return false;
     }
-    if mask.len() != 256 {
+    if mask.len() != group::OFFSETS as usize {
         return false;
     }
     let r = record::decode(eight, 0);

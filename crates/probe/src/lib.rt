@@ -9,6 +9,7 @@ ghost use lib.Dec.{ltb};
 ghost use lib.ListN.{length};
 ghost use Rattle.model.specs.Lists.{all, ascending, store};
 ghost use Rattle.model.specs.Learning.{sorted, logicals, sources as sourcesOf, learn};
+ghost use Rattle.record.specs.Coding.{recordWidth};
 ghost use Rattle.learn.specs.Runs.{counts};
 ghost use Rattle.probe.specs.Encoded.{encoded};
 
@@ -34,7 +35,7 @@ pub extern "C" fn probe_learn(
     taken: &mut [u32],
 ) -> u64
     requires { ⌜ (ascending (now written) ≡ true) × (length (now written) ≤ 256) × (first + length (now written) ≤ 2097152) × (g ≤ 15) ⌝ }
-    requires { ⌜ (8 * length (now written) ≤ length (now out)) × (length (now written) ≤ length (now taken)) ⌝ }
+    requires { ⌜ (recordWidth * length (now written) ≤ length (now out)) × (length (now written) ≤ length (now taken)) ⌝ }
     ensures { λ r. ⌜ r ≡ length (learn g first (now (written .entry))) ⌝ }
     ensures { λ _. ⌜ now (out .exit) ≡ store (now (out .entry)) 0 (encoded (learn g first (now (written .entry)))) ⌝ }
     ensures { λ _. ⌜ now (taken .exit) ≡ store (now (taken .entry)) 0 (counts (learn g first (now (written .entry)))) ⌝ }
@@ -44,7 +45,7 @@ pub extern "C" fn probe_learn(
     while i < written.len() {
         let r = learn::runs::run_at(written, i, first, g);
         let learned = r.learned;
-        learned.encode(out, 8 * n);
+        learned.encode(out, record::RECORD_BYTES * n);
         taken[n] = r.taken as u32;
         i += r.taken;
         n += 1;

@@ -5,6 +5,9 @@ use lib.ListN.{getD}
 use Rattle.bytes.specs.Little.{le16, le32s, bits32, bytes2, bytes4}
 use Rattle.record.specs.declared.Record.{Record}
 
+abbrev pub recordWidth : ℕ
+recordWidth = 8
+
 -- the record in the eight bytes at p
 unfoldable pub recordAt : List ℕ → ℕ → Record
 recordAt s p = record { start = getD s p 0; span = getD s (p + 1) 0; word = le16 s (p + 2); intercept = le32s s (p + 4) }

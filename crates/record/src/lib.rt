@@ -10,7 +10,10 @@ ghost use Rattle.model.specs.Record.{kind, isApproximate, end, covers, member, 
 ghost use Rattle.model.specs.Levels.{meets, shrunkToAny, shrink};
 ghost use Rattle.record.specs.Read.{asRecord, bare, pageOf, existing, leftOf};
 ghost use Rattle.record.specs.Scan.{masked, stays, onStride, First, Last};
-ghost use Rattle.record.specs.Coding.{recordAt, eight, InEight};
+ghost use Rattle.record.specs.Coding.{recordWidth, recordAt, eight, InEight};
+
+// A record's bytes (docs/LAYOUT.md, 'A slot').
+pub const RECORD_BYTES: usize = 8;
 
 // Start S, span L, word and intercept I: a record that covers the offsets S to S + L.
 pub struct Record {
@@ -169,7 +172,7 @@ impl Record {
 
     // Stores its eight bytes at p.
     pub fn encode(self, s: &mut [u8], p: usize)
-        requires { ⌜ (p + 8 ≤ length (now s)) × InEight self ⌝ }
+        requires { ⌜ (p + recordWidth ≤ length (now s)) × InEight self ⌝ }
         ensures { λ _. ⌜ now (s .exit) ≡ store (now (s .entry)) p (eight self) ⌝ }
     {
         bytes::put_u8(s, p, self.start);
@@ -181,7 +184,7 @@ impl Record {
 
 // The record in the eight bytes at p.
 pub fn decode(s: &[u8], p: usize) -> Record
-    requires { ⌜ p + 8 ≤ length (now s) ⌝ }
+    requires { ⌜ p + recordWidth ≤ length (now s) ⌝ }
     ensures { λ r. ⌜ (r ≡ recordAt (now (s .entry)) p) × InEight r ⌝ }
 {
     let start = bytes::get_u8(s, p);

@@ -5,7 +5,7 @@ use Prim.Native.Nat.{ℕ, zero, suc, _≤_, _<_}
 use native.Mathlib.Omega.{arith}
 use lib.ListN.{length, getD, set}
 use Rattle.group.specs.declared.Slot.{Slot}
-use Rattle.slots.specs.Edits.{raiseFrom}
+use Rattle.slots.specs.Edits.{pushDownFrom}
 
 -- the first i elements, and behind them what f makes of the others
 unfoldable pub behindFirst : {A : Type 0} → ℕ → (List A → List A) → List A → List A
@@ -30,9 +30,9 @@ module _ {A : Type 0} (d : A) (f : List A → List A) where
   behind-turn g y zero (x ∷ l) h e = sym (e l)
   behind-turn g y (suc i) (x ∷ l) h e = ap (λ (m : List A). x ∷ m) (behind-turn g y i l (omega arith) e)
 
--- slots are raised from one place on
-pub raise-behind : (i : ℕ) (l : List Slot) → behindFirst i (raiseFrom 0) l ≡ raiseFrom i l
-unfolding behindFirst raiseFrom
-raise-behind zero l = refl
-raise-behind (suc i) [] = refl
-raise-behind (suc i) (x ∷ l) = ap (λ (m : List Slot). x ∷ m) (raise-behind i l)
+-- slots are pushed down from one place on
+pub push-behind : (i : ℕ) (l : List Slot) → behindFirst i (pushDownFrom 0) l ≡ pushDownFrom i l
+unfolding behindFirst pushDownFrom
+push-behind zero l = refl
+push-behind (suc i) [] = refl
+push-behind (suc i) (x ∷ l) = ap (λ (m : List Slot). x ∷ m) (push-behind i l)

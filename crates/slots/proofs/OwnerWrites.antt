@@ -1,8 +1,8 @@
--- The used slots and the owners after the flag or the entry of one offset was stored: the bytes of the others stay. Assumes nothing.
+-- The used slots, the flag and the entries after the flag or one entry was stored: the bytes of the others stay. Assumes nothing.
 use mathlib.Core.Path.{_≡_, refl, _∙_}
 use mathlib.Core.List.{List}
 use mathlib.Core.Bool.{Bool, true, false}
-use Prim.Native.Nat.{ℕ, _<_}
+use Prim.Native.Nat.{ℕ, _+_, _≤_, _<_}
 use native.Mathlib.Omega.{arith}
 use lib.Dec.{ltb}
 use borrow.Author.Tests.{ltb-true, ltb-false}
@@ -12,33 +12,43 @@ use Rattle.model.specs.Device.{groupLength}
 use Rattle.model.proofs.Lists.{length-store}
 use Rattle.bytes.specs.Little.{bytes2}
 use Rattle.bytes.proofs.Same.{Same, stored-below, stored-above}
-use Rattle.bytes.proofs.ReadWrite.{length-bytes2, le16-stored}
-use Rattle.group.specs.Layout.{flagOf, slotsOf, entryOf, ownerOf, ownerPlace}
-use Rattle.slots.specs.View.{Room, Renamed}
-use Rattle.slots.proofs.Reading.{slots-kept, flag-same, owner-same, owner-entry}
+use Rattle.bytes.proofs.ReadWrite.{length-bytes2, le16-same, le16-stored}
+use Rattle.group.specs.Layout.{offsets, usedPlace, flagPlace, slotsPlace, ownersPlace, ownerPlace, flagOf, slotsOf, entryOf}
+use Rattle.slots.specs.View.{Room, Entered}
+use Rattle.slots.proofs.Reading.{slotsLength, entriesLength, slots-kept, flag-same, entries-kept}
+
+-- the flag became v; all else is as before
+pub record Flagged (s t : List ℕ) (v : ℕ) : Type 0 where
+  pub room : Room t
+  pub slots : slotsOf t ≡ slotsOf s
+  pub flag : flagOf t ≡ v
+  pub entries : (o : ℕ) → o < offsets → entryOf t o ≡ entryOf s o
 
 -- the flag is stored
-module _ (s t : List ℕ) (v : ℕ) (room : Room s) (small : v < 65536) where
-  pub flag-stored : t ≡ store s 2 (bytes2 v) → Room t × (slotsOf t ≡ slotsOf s) × (flagOf t ≡ v)
-  unfolding groupLength flagOf
-  flag-stored e =
-      let two = length-bytes2 v in
-      let long : length (store s 2 (bytes2 v)) ≡ 5636 = length-store s 2 (bytes2 v) ∙ room .0 in
-      let kept : slotsOf (store s 2 (bytes2 v)) ≡ slotsOf s = slots-kept (room .0) long (room .1) (stored-below 2 s 2 (bytes2 v) 0 (omega arith)) (stored-above 5120 s 2 (bytes2 v) 4 (omega arith)) in
-      rw e ((long, rw kept (room .1)), kept, le16-stored s 2 v (omega arith) small)
+pub flag-stored : (s t : List ℕ) (v : ℕ) → Room s → v < 65536 → t ≡ store s flagPlace (bytes2 v) → Flagged s t v
+unfolding groupLength flagOf
+flag-stored s t v room small e =
+    let two = length-bytes2 v in
+    let long : length (store s flagPlace (bytes2 v)) ≡ groupLength = length-store s flagPlace (bytes2 v) ∙ room .0 in
+    let above : (n q : ℕ) → slotsPlace ≤ q → Same n (store s flagPlace (bytes2 v)) q s q = λ n q h. stored-above n s flagPlace (bytes2 v) q (omega arith) in
+    let kept : slotsOf (store s flagPlace (bytes2 v)) ≡ slotsOf s = slots-kept room long (stored-below 2 s flagPlace (bytes2 v) usedPlace (omega arith)) (above slotsLength slotsPlace (omega arith)) in
+    rw e (record {
+      room = (long, rw kept (room .1));
+      slots = kept;
+      flag = le16-stored s flagPlace v (omega arith) small;
+      entries = entries-kept (above entriesLength ownersPlace (omega arith));
+    })
 
 -- the entry of offset o is stored
-module _ (s t : List ℕ) (o w : ℕ) (room : Room s) (on : 0 < flagOf s) (inside : o < 256) (small : w < 65536) where
-  entry-there : ownerOf (store s (ownerPlace o) (bytes2 w)) o ≡ w
-  unfolding groupLength entryOf
-  entry-there =
-      let flag : flagOf (store s (ownerPlace o) (bytes2 w)) ≡ flagOf s = flag-same (stored-below 2 s (ownerPlace o) (bytes2 w) 2 (omega arith)) in
-      owner-entry (store s (ownerPlace o) (bytes2 w)) o (λ e. omega arith) ∙ le16-stored s (ownerPlace o) w (omega arith) small
+module _ (s : List ℕ) (o w : ℕ) (room : Room s) (inside : o < offsets) (small : w < 65536) where
+  abbrev entered : List ℕ
+  entered = store s (ownerPlace o) (bytes2 w)
 
-  entry-other : (k : ℕ) → (k ≡ o → ⊥) → ownerOf (store s (ownerPlace o) (bytes2 w)) k ≡ ownerOf s k
-  entry-other k n = owner-same k (stored-below 2 s (ownerPlace o) (bytes2 w) 2 (omega arith)) (go (ltb k o) refl)
+  entry-other : (k : ℕ) → (k ≡ o → ⊥) → entryOf entered k ≡ entryOf s k
+  unfolding entryOf
+  entry-other k n = le16-same (go (ltb k o) refl)
     where
-      go : (b : Bool) → ltb k o ≡ b → Same 2 (store s (ownerPlace o) (bytes2 w)) (ownerPlace k) s (ownerPlace k)
+      go : (b : Bool) → ltb k o ≡ b → Same 2 entered (ownerPlace k) s (ownerPlace k)
       go true e = let l = ltb-true k o e in stored-below 2 s (ownerPlace o) (bytes2 w) (ownerPlace k) (omega arith)
       go false e =
           let l = ltb-false k o e in
@@ -46,17 +56,16 @@ module _ (s t : List ℕ) (o w : ℕ) (room : Room s) (on : 0 < flagOf s) (insid
           let m : o < k = omega arith in
           stored-above 2 s (ownerPlace o) (bytes2 w) (ownerPlace k) (omega arith)
 
-  pub entry-stored : t ≡ store s (ownerPlace o) (bytes2 w) → Renamed s t o w
-  unfolding groupLength
-  entry-stored e =
-      let long : length (store s (ownerPlace o) (bytes2 w)) ≡ 5636 = length-store s (ownerPlace o) (bytes2 w) ∙ room .0 in
-      let count : Same 2 (store s (ownerPlace o) (bytes2 w)) 0 s 0 = stored-below 2 s (ownerPlace o) (bytes2 w) 0 (omega arith) in
-      let array : Same 5120 (store s (ownerPlace o) (bytes2 w)) 4 s 4 = stored-below 5120 s (ownerPlace o) (bytes2 w) 4 (omega arith) in
-      let kept : slotsOf (store s (ownerPlace o) (bytes2 w)) ≡ slotsOf s = slots-kept (room .0) long (room .1) count array in
+  pub entry-stored : (t : List ℕ) → t ≡ store s (ownerPlace o) (bytes2 w) → Entered s t o w
+  unfolding groupLength entryOf
+  entry-stored t e =
+      let long : length entered ≡ groupLength = length-store s (ownerPlace o) (bytes2 w) ∙ room .0 in
+      let below : (n q : ℕ) → q + n ≤ ownersPlace → Same n entered q s q = λ n q h. stored-below n s (ownerPlace o) (bytes2 w) q (omega arith) in
+      let kept : slotsOf entered ≡ slotsOf s = slots-kept room long (below 2 usedPlace (omega arith)) (below slotsLength slotsPlace (omega arith)) in
       rw e (record {
         room = (long, rw kept (room .1));
         slots = kept;
-        flag = flag-same (stored-below 2 s (ownerPlace o) (bytes2 w) 2 (omega arith));
-        there = entry-there;
+        flag = flag-same (below 2 flagPlace (omega arith));
+        there = le16-stored s (ownerPlace o) w (omega arith) small;
         others = entry-other;
       })

@@ -9,10 +9,10 @@ use lib.ListN.{length, replicate, getD-replicate}
 use borrow.Author.Tests.{eq-eqb, ne-eqb}
 use Rattle.model.specs.Device.{groupLength}
 use Rattle.record.specs.Scan.{masked}
-use Rattle.group.specs.Layout.{flagOf, slotsOf, ownerOf}
+use Rattle.group.specs.Layout.{offsets, flagOf, slotsOf, ownerOf}
+use Rattle.group.proofs.Cases.{owner-none}
 use Rattle.slots.specs.View.{Shows}
-use Rattle.slots.specs.Owners.{either, disowned, handedOver, takenBy, leftTo}
-use Rattle.slots.proofs.Reading.{owner-none}
+use Rattle.slots.specs.Owners.{either, disowned, handedOver, leftTo}
 
 -- an owner that names the start is handed over
 module _ (start : ℕ) (left : Bool) (newStart w : ℕ) where
@@ -47,19 +47,9 @@ handed-unowned s m start newStart long e = (long, refl, λ o h. sym (handed-othe
     unnamed o f = let z : ownerOf s o ≡ 0 = owner-none s o e in omega arith
 
 -- handed over by a mask that has no offset
-pub handed-nobody : (s t : List ℕ) (start newStart : ℕ) → Shows t (slotsOf s) (λ o. handedOver start (masked (replicate 256 0) o) newStart (ownerOf s o))
+pub handed-nobody : (s t : List ℕ) (start newStart : ℕ) → Shows t (slotsOf s) (λ o. handedOver start (masked (replicate offsets 0) o) newStart (ownerOf s o))
     → Shows t (slotsOf s) (λ o. disowned start (ownerOf s o))
-handed-nobody s t start newStart after = (after .0, after .1, λ o h. after .2 o h ∙ handed-none start (masked (replicate 256 0) o) newStart (ownerOf s o) (unmasked o h))
+handed-nobody s t start newStart after = (after .0, after .1, λ o h. after .2 o h ∙ handed-none start (masked (replicate offsets 0) o) newStart (ownerOf s o) (unmasked o h))
   where
-    unmasked : (o : ℕ) → o < 256 → masked (replicate 256 0) o ≡ false
-    unmasked o h = ap (λ (x : ℕ). not (eqb x 0)) (getD-replicate 256 o 0 0 h)
-
--- the flag set, and all owners cleared: as it was while the flag was 0
-pub opened : (s t u : List ℕ) → flagOf s ≡ 0 → slotsOf t ≡ slotsOf s → flagOf t ≡ 1 → Shows u (slotsOf t) (λ o. 0) → flagOf u ≡ flagOf t
-    → Shows u (slotsOf s) (ownerOf s) × (0 < flagOf u)
-opened s t u e slots one after flag = ((after .0, after .1 ∙ slots, λ o h. after .2 o h ∙ sym (owner-none s o e)), omega arith)
-
--- offsets taken after that
-pub then-owned : (s t u m : List ℕ) (start : ℕ) → Shows t (slotsOf s) (ownerOf s) → Shows u (slotsOf t) (λ o. takenBy start (masked m o) (ownerOf t o))
-    → Shows u (slotsOf s) (λ o. takenBy start (masked m o) (ownerOf s o))
-then-owned s t u m start before after = (after .0, after .1 ∙ before .1, λ o h. after .2 o h ∙ ap (takenBy start (masked m o)) (before .2 o h))
+    unmasked : (o : ℕ) → o < offsets → masked (replicate offsets 0) o ≡ false
+    unmasked o h = ap (λ (x : ℕ). not (eqb x 0)) (getD-replicate offsets o 0 0 h)

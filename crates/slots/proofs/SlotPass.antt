@@ -12,10 +12,10 @@ use borrow.Author.Tests.{ltb-true}
 use Rattle.model.specs.Lists.{all}
 use Rattle.model.proofs.Bools.{all-head, all-tail}
 use Rattle.group.specs.declared.Slot.{Slot}
-use Rattle.group.specs.Layout.{slotsOf, ownerOf}
+use Rattle.group.specs.Layout.{offsets, slotsOf, ownerOf}
 use Rattle.group.specs.Answers.{noSlot}
 use Rattle.slots.specs.View.{Room, Shows}
-use Rattle.slots.specs.Edits.{replaceAt, atLevel, raiseFrom, canRise, renumbered, settle}
+use Rattle.slots.specs.Edits.{replaceAt, atLevel, pushDownFrom, canGoDown, renumbered, renumberLevels}
 use Rattle.slots.proofs.Behind.{behindFirst, behind-end, behind-turn}
 
 -- from s to t, where f of the slots from j on of n still is to make the slots l
@@ -23,7 +23,7 @@ pub record Changing (f : List Slot → List Slot) (l : List Slot) (s t : List �
   pub room : Room t
   pub count : length (slotsOf t) ≡ n
   pub rest : behindFirst j f (slotsOf t) ≡ l
-  pub owners : (o : ℕ) → o < 256 → ownerOf t o ≡ ownerOf s o
+  pub owners : (o : ℕ) → o < offsets → ownerOf t o ≡ ownerOf s o
 
 module _ (f : List Slot → List Slot) where
   pub change-start : (l : List Slot) (s : List ℕ) (n j : ℕ) → Room s → n ≡ length (slotsOf s) → behindFirst j f (slotsOf s) ≡ l → Changing f l s s n j
@@ -47,29 +47,29 @@ module _ (f : List Slot → List Slot) where
     pub change-end : f [] ≡ [] → n ≤ j → Shows t l (ownerOf s)
     change-end e h = let count = so .count in (so .room .0, sym (behind-end noSlot f j (slotsOf t) e (omega arith)) ∙ so .rest, so .owners)
 
--- the levels of the slots from j on of n can rise
-abbrev pub CanRise : List ℕ → ℕ → ℕ → Type 0
-CanRise t n j = (k : ℕ) → j ≤ k → k < n → getD (slotsOf t) k noSlot .level < 65535
+-- the slots from j on of n can go down
+abbrev pub Lowerable : List ℕ → ℕ → ℕ → Type 0
+Lowerable t n j = (k : ℕ) → j ≤ k → k < n → getD (slotsOf t) k noSlot .level < 65535
 
-rise-each : (l : List Slot) → all canRise l ≡ true → (k : ℕ) → k < length l → getD l k noSlot .level < 65535
-unfolding canRise
-rise-each [] a k h = absurd (omega arith)
-rise-each (x ∷ l) a zero h = ltb-true _ _ (all-head canRise x l a)
-rise-each (x ∷ l) a (suc k) h = rise-each l (all-tail canRise x l a) k (omega arith)
+down-each : (l : List Slot) → all canGoDown l ≡ true → (k : ℕ) → k < length l → getD l k noSlot .level < 65535
+unfolding canGoDown
+down-each [] a k h = absurd (omega arith)
+down-each (x ∷ l) a zero h = ltb-true _ _ (all-head canGoDown x l a)
+down-each (x ∷ l) a (suc k) h = down-each l (all-tail canGoDown x l a) k (omega arith)
 
-pub rise-start : (t : List ℕ) (n j : ℕ) → n ≡ length (slotsOf t) → all canRise (slotsOf t) ≡ true → CanRise t n j
-rise-start t n j e a k h l = rise-each (slotsOf t) a k (omega arith)
+pub down-start : (t : List ℕ) (n j : ℕ) → n ≡ length (slotsOf t) → all canGoDown (slotsOf t) ≡ true → Lowerable t n j
+down-start t n j e a k h l = down-each (slotsOf t) a k (omega arith)
 
-pub rise-turn : (t u : List ℕ) (n j : ℕ) (y : Slot) → slotsOf u ≡ replaceAt j y (slotsOf t) → CanRise t n j → CanRise u n (j + 1)
-rise-turn t u n j y e c k h l =
+pub down-turn : (t u : List ℕ) (n j : ℕ) (y : Slot) → slotsOf u ≡ replaceAt j y (slotsOf t) → Lowerable t n j → Lowerable u n (j + 1)
+down-turn t u n j y e c k h l =
     let kept : getD (slotsOf u) k noSlot ≡ getD (slotsOf t) k noSlot = rw e (getD-set-other (slotsOf t) j k y noSlot (λ i. omega arith)) in
     rw kept (c k (omega arith) l)
 
--- one slot raised, and one numbered anew
-pub raise-one : (x : Slot) (n : ℕ) → n ≡ x .level → (m : List Slot) → raiseFrom 0 (x ∷ m) ≡ atLevel (n + 1) x ∷ raiseFrom 0 m
-unfolding raiseFrom
-raise-one x n e m = rw (add-one n, e)
+-- one slot pushed down, and one numbered anew
+pub push-one : (x : Slot) (n : ℕ) → n ≡ x .level → (m : List Slot) → pushDownFrom 0 (x ∷ m) ≡ atLevel (n + 1) x ∷ pushDownFrom 0 m
+unfolding pushDownFrom
+push-one x n e m = rw (add-one n, e)
 
-pub settle-one : (old new : ℕ) (x : Slot) (l n : ℕ) → l ≡ x .level → n ≡ renumbered old new l → (m : List Slot) → settle old new (x ∷ m) ≡ atLevel n x ∷ settle l n m
-unfolding settle
-settle-one old new x l n e f m = rw (f, e)
+pub renumber-one : (old new : ℕ) (x : Slot) (l n : ℕ) → l ≡ x .level → n ≡ renumbered old new l → (m : List Slot) → renumberLevels old new (x ∷ m) ≡ atLevel n x ∷ renumberLevels l n m
+unfolding renumberLevels
+renumber-one old new x l n e f m = rw (f, e)

@@ -15,25 +15,25 @@ abbrev pub atLevel : ℕ → Slot → Slot
 atLevel n s = record { level = n; held = s .held }
 
 -- the slot one level further down
-abbrev pub raised : Slot → Slot
-raised s = atLevel (suc (s .level)) s
+abbrev pub pushedDown : Slot → Slot
+pushedDown s = atLevel (suc (s .level)) s
 
 -- slot i and all behind it one level further down
-unfoldable pub raiseFrom : ℕ → List Slot → List Slot
-raiseFrom i [] = []
-raiseFrom zero (s ∷ l) = raised s ∷ raiseFrom zero l
-raiseFrom (suc i) (s ∷ l) = s ∷ raiseFrom i l
+unfoldable pub pushDownFrom : ℕ → List Slot → List Slot
+pushDownFrom i [] = []
+pushDownFrom zero (s ∷ l) = pushedDown s ∷ pushDownFrom zero l
+pushDownFrom (suc i) (s ∷ l) = s ∷ pushDownFrom i l
 
 -- the number of the level below it fits two bytes, too
-unfoldable pub canRise : Slot → Bool
-canRise s = ltb (s .level) 65535
+unfoldable pub canGoDown : Slot → Bool
+canGoDown s = ltb (s .level) 65535
 
 -- the new number of a level behind the level `old`, which got the number `new`: the same, or the next
 unfoldable pub renumbered : ℕ → ℕ → ℕ → ℕ
 renumbered old new level = elim (eqb level old) [ true ↦ new | false ↦ suc new ]
 
 -- the slots with their levels numbered anew behind a slot of the level `old`, which got the number `new`
-unfoldable pub settle : ℕ → ℕ → List Slot → List Slot
+unfoldable pub renumberLevels : ℕ → ℕ → List Slot → List Slot
 unfolding renumbered
-settle old new [] = []
-settle old new (s ∷ l) = atLevel (renumbered old new (s .level)) s ∷ settle (s .level) (renumbered old new (s .level)) l
+renumberLevels old new [] = []
+renumberLevels old new (s ∷ l) = atLevel (renumbered old new (s .level)) s ∷ renumberLevels (s .level) (renumbered old new (s .level)) l

@@ -9,8 +9,8 @@ either true a b = a
 either false a b = b
 
 -- owner w names the record that starts at `start`
-abbrev pub names : ℕ → ℕ → Bool
-names w start = eqb w (suc start)
+abbrev pub ownerIs : ℕ → ℕ → Bool
+ownerIs w start = eqb w (suc start)
 
 -- an offset that is taken names `start`
 unfoldable pub takenBy : ℕ → Bool → ℕ → ℕ
@@ -20,13 +20,13 @@ takenBy start taken w = either taken (suc start) w
 -- whoever named `start` names the new start, where the offset is left to it, and otherwise nobody
 unfoldable pub handedOver : ℕ → Bool → ℕ → ℕ → ℕ
 unfolding either
-handedOver start left newStart w = either (names w start) (either left (suc newStart) 0) w
+handedOver start left newStart w = either (ownerIs w start) (either left (suc newStart) 0) w
 
 -- whoever named `start` names nobody
 unfoldable pub disowned : ℕ → ℕ → ℕ
 unfolding either
-disowned start w = either (names w start) 0 w
+disowned start w = either (ownerIs w start) 0 w
 
 -- an offset whose owner names `start` stays with it where it isn't taken
 unfoldable pub leftTo : ℕ → Bool → ℕ → Bool
-leftTo start taken w = names w start && not taken
+leftTo start taken w = ownerIs w start && not taken

@@ -30,8 +30,8 @@ use Rattle.state.proofs.Tables.{length-from, getD-from}
 use Rattle.writing.specs.Handed.{firstPlace, offsetsAt, ownedOf, owning, noRecord, learnedAt, runGroup, handedRun, runsFrom, Learned}
 
 -- a run of the first of the pages l, on the pages from p on
-abbrev FirstRun : Bounds → ℕ → List ℕ → Run → Type 0
-FirstRun b p l r = Part b p l r × GreedyRun b p l (r .learned) (r .taken)
+abbrev RunHere : Bounds → ℕ → List ℕ → Run → Type 0
+RunHere b p l r = Part b p l r × GreedyRun b p l (r .learned) (r .taken)
 
 -- the offsets of its pages are the record's members,
 members-are : (b : Bounds) (p : ℕ) (l : List ℕ) (r : Run) → Part b p l r → (o : ℕ) → o < 256 → member (r .learned) o ≡ elem o (offsets (take (r .taken) l))
@@ -60,7 +60,7 @@ noRun = record { group = 0; learned = record { start = 0; span = 0; word = 0; in
 -- a run is where run k is read
 record Found (w taken : List ℕ) (b : Bounds) (r : Run) (k : ℕ) : Type 0 where
   first : ℕ
-  at : FirstRun b first (drop (firstPlace taken k) w) r
+  at : RunHere b first (drop (firstPlace taken k) w) r
 
 -- runs that cut the pages from place a on into parts, the first of them run i
 found-at : (w taken : List ℕ) (b : Bounds) (p a i : ℕ) (l : List ℕ) (rs : List Run) → l ≡ drop a w → Parted b p l rs → Greedy b p l rs → firstPlace taken i ≡ a
@@ -69,7 +69,7 @@ unfolding firstPlace
 found-at w taken b p a i l [] s c g e f j k q h = absurd (let z : ⊥ = omega arith in z)
 found-at w taken b p a i l (r ∷ rs) s c (run _ x _ _ _ u v g) e f zero k q h =
     let z : i ≡ k = omega arith in
-    record { first = p; at = subst (λ (m : List ℕ). FirstRun b p m r) (s ∙ ap (λ (m : ℕ). drop m w) (sym e ∙ ap (firstPlace taken) z)) (c .0, v) }
+    record { first = p; at = subst (λ (m : List ℕ). RunHere b p m r) (s ∙ ap (λ (m : ℕ). drop m w) (sym e ∙ ap (firstPlace taken) z)) (c .0, v) }
 found-at w taken b p a i l (r ∷ rs) s c (run _ x _ _ _ u v g) e f (suc j) k q h =
     found-at w taken b (p + r .taken) (a + r .taken) (suc i) _ rs (ap (drop (r .taken)) s ∙ drop-drop (r .taken) a w) (c .1) g (omega (arith, e, f 0 i (omega arith) (omega arith)))
     (λ m n l b. f (suc m) n (omega arith) (omega arith)) j k (omega arith) (omega arith)

@@ -3,7 +3,6 @@ pub mod RunsEnd
 pub mod Rooms
 pub mod Passing
 pub mod Learned
-pub mod Locals
-pub mod Calling
+pub mod Walking
 pub mod Lending
 pub mod Written

@@ -10,7 +10,6 @@ use lib.Dec.{ltb, eqb}
 use lib.ListN.{length, getD, set, length-set}
 use lib.Seq.{getD-set-same, getD-set-other, ext-getD}
 use borrow.Author.Tests.{ltb-true, eqb-true, eqb-false, eq-eqb}
-use Rattle.model.specs.Lists.{all}
 use Rattle.model.specs.Device.{Device, groupCount}
 use Rattle.model.specs.Learning.{Run, recordsFor}
 use Rattle.model.specs.Levels.{Group, recordCount, insert, takeIn, takeInAll}
@@ -24,12 +23,11 @@ use Rattle.insertion.proofs.ListWrites.{all-at}
 use Rattle.state.specs.Regions.{listFrom}
 use Rattle.state.specs.Shaped.{Shaped}
 use Rattle.state.proofs.Shaping.{shaped-groups}
-use Rattle.writing.specs.declared.Place.{Place}
-use Rattle.writing.specs.Handed.{firstPlace, noRecord, learnedAt, runGroup, handedRun, runsFrom, runsEnd, Located, Sorted, Learned}
-use Rattle.writing.specs.Taking.{withRoom, grown, putIn, InTurn}
+use Rattle.writing.specs.Handed.{firstPlace, noRecord, learnedAt, runGroup, handedRun, runsFrom, runsEnd, Sorted, Learned}
+use Rattle.writing.specs.Taking.{withRoom, grown, putIn}
 use Rattle.writing.proofs.Places.{page-inside}
 use Rattle.writing.proofs.Rooms.{room-fits, room-sound, takes-none, takes-first}
-use Rattle.writing.proofs.RunsEnd.{end-behind, end-stays, own-count}
+use Rattle.writing.proofs.RunsEnd.{end-behind, own-count}
 
 -- Groups that take in nothing stay.
 groups-none : (N : ℕ) (gs : List Group) → soundGroups N 0 gs ≡ true → takeInAll 0 [] gs ≡ gs
@@ -99,25 +97,17 @@ module _ (d : Device) (w : List ℕ) (out : List struct.Record) (taken : List �
     abbrev m : ℕ
     m = runsEnd w taken n i - i
 
-    few : m ≤ 256
-    few = omega (arith, end-behind w taken n i h .1, c .sorted .few)
-
-    grown-sound : soundGroup (d .N) k (grown w taken i (runsEnd w taken n i) (getD out i noRecord) (groupAt t k)) ≡ true
-    unfolding grown groupAt
-    grown-sound =
-        insert-sound (d .N) k (learnedAt w out taken i) (withRoom m (groupAt t k)) (room-sound m (groupAt t k) (d .N) k (group-sound (d .N) k (t .groups) (p .sound))) (c .sound i h)
-        (omega (arith, end-behind w taken n i h .0, room-fits m (groupAt t k) few))
-
-    next : runsFrom w out taken i (n - i) ≡ handedRun w out taken i ∷ runsFrom w out taken (i + 1) (n - (i + 1))
-    unfolding runsFrom listFrom
-    next = let e : n - i ≡ suc (n - suc i) = omega arith in rw (e, add-one i) refl
-
     pub taken-more : (u : State) (j : ℕ) → u ≡ putIn w taken n i (getD out i noRecord) t → j ≡ i + 1 → TakenIn d w out taken n s u j
-    unfolding putIn grown withGroups groupAt handedRun
-    taken-more u j done moved = rw (done, moved) (record {
-      shaped = shaped-groups d _ t (p .shaped);
-      sound = set-sound (d .N) k (t .groups) _ (p .sound) grown-sound;
-      left = ap (λ (gs : List Group). withGroups gs t) (sym (groups-first (handedRun w out taken i) (runsFrom w out taken (i + 1) (n - (i + 1))) (t .groups)
-          (omega (arith, group-exists d w taken n i (c .sorted) h, size)) m (ap (λ (rs : List Run). length (recordsFor k rs)) (sym next) ∙ own-count w taken n (c .sorted .counted) (c .sorted .ascends) out i h) few))
-          ∙ rw next at (p .left);
-    })
+    unfolding putIn grown withGroups groupAt handedRun runsFrom listFrom
+    taken-more u j done moved =
+        let few : m ≤ 256 = omega (arith, end-behind w taken n i h .1, c .sorted .few) in
+        let fits : recordCount (withRoom m (groupAt t k)) < 512 = omega (arith, end-behind w taken n i h .0, room-fits m (groupAt t k) few) in
+        let roomy : soundGroup (d .N) k (withRoom m (groupAt t k)) ≡ true = room-sound m (groupAt t k) (d .N) k (group-sound (d .N) k (t .groups) (p .sound)) in
+        let e : n - i ≡ suc (n - suc i) = omega arith in
+        let own : length (recordsFor k (handedRun w out taken i ∷ runsFrom w out taken (suc i) (n - suc i))) ≡ m = rw e at (own-count w taken n (c .sorted .counted) (c .sorted .ascends) out i h) in
+        rw (done, moved, add-one i)
+        (record {
+          shaped = shaped-groups d _ t (p .shaped);
+          sound = set-sound (d .N) k (t .groups) _ (p .sound) (insert-sound (d .N) k (learnedAt w out taken i) _ roomy (c .sound i h) fits);
+          left = ap (λ (gs : List Group). withGroups gs t) (sym (groups-first (handedRun w out taken i) _ (t .groups) (omega (arith, group-exists d w taken n i (c .sorted) h, size)) m own few)) ∙ rw e at (p .left);
+        })

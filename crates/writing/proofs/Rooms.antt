@@ -1,6 +1,6 @@
 -- Room for records in a group: it is compacted where they would be too many, and then has room. So records are taken in one by one,
 -- each where there is room for those left. Assumes nothing.
-use mathlib.Core.Path.{_≡_, refl, sym, ap, _∙_}
+use mathlib.Core.Path.{_≡_, refl, sym, ap}
 use mathlib.Core.List.{List, [], _∷_}
 use mathlib.Core.Bool.{Bool, true, false}
 use Prim.Native.Nat.{ℕ, suc, _+_, _≤_, _<_}
@@ -19,15 +19,11 @@ module _ (n : ℕ) (g : Group) where
   -- n records fit, or they don't
   pub room-plain : recordCount g + n ≤ 512 → withRoom n g ≡ g
   unfolding withRoom
-  room-plain h =
-      let t : ltb 512 (recordCount g + n) ≡ false = le-ltb 512 (recordCount g + n) h in
-      rw (t, withRoom) refl
+  room-plain h = rw (le-ltb 512 (recordCount g + n) h, withRoom)
 
   pub room-compact : 512 < recordCount g + n → withRoom n g ≡ compact g
   unfolding withRoom
-  room-compact h =
-      let t : ltb 512 (recordCount g + n) ≡ true = lt-ltb 512 (recordCount g + n) h in
-      rw (t, withRoom) refl
+  room-compact h = rw (lt-ltb 512 (recordCount g + n) h, withRoom)
 
   -- then they do
   pub room-fits : n ≤ 256 → recordCount (withRoom n g) + n ≤ 512

@@ -4,6 +4,7 @@ use mathlib.Core.List.{List}
 use mathlib.Core.Bool.{Bool, true, false}
 use Prim.Native.Nat.{ℕ, zero, suc, _+_, _-_, _/_, _≤_, _<_}
 use native.Mathlib.Omega.{arith}
+use native.Mathlib.Nat.{le-refl}
 use native.Mathlib.Numerals.{add-one}
 use lib.Dec.{ltb, eqb}
 use lib.ListN.{length, getD}
@@ -32,15 +33,12 @@ module _ (w taken : List ℕ) where
     -- they go on where run i lies in the group, and end there if it doesn't or is none of them
     pub end-on : (n i : ℕ) → i < n → runGroup w taken i ≡ k → endFrom w taken k i (n - i) ≡ endFrom w taken k (i + 1) (n - (i + 1))
     unfolding endFrom
-    end-on n i h e =
-        let m : n - i ≡ suc (n - suc i) = omega arith in
-        let t : eqb (runGroup w taken i) k ≡ true = eq-eqb _ _ e in
-        rw (m, add-one i, t, endFrom)
+    end-on n i h e = let m : n - i ≡ suc (n - suc i) = omega arith in rw (m, add-one i, eq-eqb (runGroup w taken i) k e, endFrom)
 
     pub end-here : (i m : ℕ) → (0 < m → runGroup w taken i ≡ k → ⊥) → endFrom w taken k i m ≡ i
     unfolding endFrom
     end-here i zero f = refl
-    end-here i (suc m) f = let t : eqb (runGroup w taken i) k ≡ false = ne-eqb _ _ (f (omega arith)) in rw (t, endFrom)
+    end-here i (suc m) f = rw (ne-eqb (runGroup w taken i) k (f (omega arith)), endFrom)
 
   -- Run i of n: the end is behind it, and where it isn't just behind, it is the next run's.
   module _ (n i : ℕ) (h : i < n) where
@@ -73,19 +71,19 @@ module _ (w taken : List ℕ) where
             rw s (omega arith)
 
     module _ (out : List Record) (k : ℕ) where
-      own-from : (i m : ℕ) → i + m ≤ n → ((j : ℕ) → i ≤ j → j < n → k ≤ runGroup w taken j) → length (recordsFor k (runsFrom w out taken i m)) ≡ endFrom w taken k i m - i
+      own-from : (i m : ℕ) → i + m ≤ n → (0 < m → k ≤ runGroup w taken i) → length (recordsFor k (runsFrom w out taken i m)) ≡ endFrom w taken k i m - i
       unfolding runsFrom listFrom recordsFor handedRun endFrom
       own-from i zero h f = omega arith
-      own-from i (suc m) h f = go (eqb (runGroup w taken i) k) refl (own-from (suc i) m (omega arith) (λ j l b. f j (omega arith) b))
+      own-from i (suc m) h f = go (eqb (runGroup w taken i) k) refl (own-from (suc i) m (omega arith) (λ l. omega (arith, f (omega arith), groups-rise i (suc i) (omega arith) (omega arith))))
         where
           go : (t : Bool) → eqb (runGroup w taken i) k ≡ t → length (recordsFor k (listFrom (handedRun w out taken) (suc i) m)) ≡ endFrom w taken k (suc i) m - suc i
               → length (recordsFor k (listFrom (handedRun w out taken) i (suc m))) ≡ endFrom w taken k i (suc m) - i
           go true e ih = rw (e, recordsFor, endFrom) (omega (arith, ih, end-within k (suc i) m .0))
           go false e ih =
               let past : runGroup w taken i ≡ k → ⊥ = eqb-false (runGroup w taken i) k e in
-              rw (e, recordsFor, endFrom) (omega (arith, ih, end-here k (suc i) m (λ l q. past (omega (arith, f i (omega arith) (omega arith), groups-rise i (suc i) (omega arith) (omega arith))))))
+              rw (e, recordsFor, endFrom) (omega (arith, ih, end-here k (suc i) m (λ l q. past (omega (arith, f (omega arith), groups-rise i (suc i) (omega arith) (omega arith))))))
 
     -- The records of run i's group, from run i on, are those up to the end.
     pub own-count : (out : List Record) (i : ℕ) → i < n → length (recordsFor (runGroup w taken i) (runsFrom w out taken i (n - i))) ≡ runsEnd w taken n i - i
     unfolding runsEnd
-    own-count out i h = own-from out (runGroup w taken i) i (n - i) (omega arith) (λ j l b. groups-rise i j l b)
+    own-count out i h = own-from out (runGroup w taken i) i (n - i) (omega arith) (λ _. le-refl _)

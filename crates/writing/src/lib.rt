@@ -23,8 +23,8 @@ ghost use Rattle.state.specs.Shaped.{Shaped};
 ghost use Rattle.writing.specs.Handed.{offsetsFrom, runGroup, runsFrom, runsEnd, Counted, Located, Learned};
 ghost use Rattle.writing.specs.Taking.{withRoom, grown, putIn, SoundBytes, Insertable, InTurn};
 
-// A place in what is handed over: a run, the first of its pages in the batch, and where the runs of its group end. A place that
-// doesn't know the end yet has it at its run.
+// A place in what is handed over: a run, the first of its pages in the batch, and where the runs of its group end; where `end` is
+// `run`, that isn't known yet.
 struct Place {
     run: usize,
     page: usize,
@@ -56,7 +56,7 @@ fn make_room(b: &mut [u8], n: usize)
     }
 }
 
-// Run p's record r is inserted into a group that has room for its runs from p on: the first of them makes it.
+// A group makes room for its runs from p on, unless it has it: the first of them makes it for all. Then p's record r is inserted.
 fn put_in(b: &mut [u8], written: &[u32], taken: &[u32], p: Place, r: Record)
     requires { ⌜ Insertable (now b) (now written) (now taken) p r ⌝ }
     ensures { λ _. ⌜ readGroup (now (b .exit)) ≡ grown (now (written .entry)) (now (taken .entry)) (p .run) (p .end) r (readGroup (now (b .entry))) ⌝ }
@@ -69,7 +69,7 @@ fn put_in(b: &mut [u8], written: &[u32], taken: &[u32], p: Place, r: Record)
     insertion::insert(b, r, &mask);
 }
 
-// Where the runs of run p's group k end, of n runs in all: p knows it, or they are gone through.
+// Where the runs of run p's group, k, end, of n runs in all: p knows it, or they are gone through.
 fn end_of(written: &[u32], taken: &[u32], n: usize, p: Place, k: u32) -> usize
     requires { ⌜ Counted (now written) (now taken) n × (p .run ≤ n) × Located (now written) (now taken) n p × (k ≡ runGroup (now written) (now taken) (p .run)) ⌝ }
     ensures { λ r. ⌜ r ≡ runsEnd (now (written .entry)) (now (taken .entry)) n (p .run) ⌝ }

@@ -25,14 +25,10 @@ high c =
 sub-result-2 : tie.Need-sub-result-2
 sub-result-2 c = rw (low c) (rw minus-one (record { sfits = omega arith }))
 
-returns : tie.Need-returns
-unfolding signed32
-returns c = refl
-
 returns-2 : tie.Need-returns-2
 unfolding signed32
 returns-2 c = ap (λ (z : ℤ). toZ w32 (ofZ w32 (negsuc 0 -ℤ z))) (low c) ∙ ap (λ (z : ℤ). toZ w32 (ofZ w32 z)) (minus-one (4294967295 - c .before .args .n)) ∙ toZ-neg w32 (4294967295 - c .before .args .n) (omega arith) ∙ sym (high c)
 
 pub to-signed-spec : {M : Type 1} → statement M
-to-signed-spec = tie.close (tie.spec (λ c. search needs) (λ c. search needs) (λ c. search needs) sub-result-2 returns
-    returns-2)
+to-signed-spec = tie.close (tie.spec (λ c. search needs) (λ c. search needs) (λ c. search needs) sub-result-2
+    (λ c. unfold signed32 in search needs) returns-2)

@@ -4,7 +4,6 @@ use mathlib.Core.Path.{_≡_, sym, ap, _∙_}
 use Prim.Native.Nat.{ℕ, _+_, _-_, _≤_}
 use native.Mathlib.Omega.{arith}
 use lib.Dec.{eqb}
-use Rattle.model.specs.Device.{groupLength}
 use Rattle.model.specs.Record.{member}
 use Rattle.group.specs.Layout.{slotsFrom, slotsOf, ownerOf, levelsAt}
 use Rattle.group.specs.Reading.{recordOf}
@@ -24,20 +23,8 @@ abbrev μ-loop : tie.MeasureT-loop
 has : (c : tie.After-member Inv-loop μ-loop) → c .member .result ≡ member (recordOf (ownerOf (c .before .before .before .before .before .before .before .before .before .args .b .now)) (c .before .before .before .slot-at .result)) (c .before .before .before .before .before .before .before .before .before .args .o)
 has c = member-by _ (c .before .before .before .slot-at .result) _ (c .before .before .before .before .before .before .before .before .before .pre .2) _ _ (ap (λ (v : ℕ). eqb v (c .before .before .before .slot-at .result .held .start + 1)) (c .before .before .before .before .before .before .owner .ensures .0)) (c .member .ensures)
 
-used-requires : tie.Need-used-requires Inv-loop μ-loop
-unfolding groupLength
-used-requires c κs = c .before .pre .0
-
-owner-requires : tie.Need-owner-requires Inv-loop μ-loop
-unfolding groupLength
-owner-requires c κs = (c .before .before .pre .0, c .before .before .pre .2)
-
 loop-holds : tie.Need-loop-holds Inv-loop μ-loop
 loop-holds c = (omega arith, omega (arith, few-used _ (c .before .before .before .pre .1)), hit-top _ _ _ 0 (c .before .used .ensures .0))
-
-slot-at-requires : tie.Need-slot-at-requires Inv-loop μ-loop
-unfolding groupLength
-slot-at-requires c κs = (c .before .before .before .before .before .pre .0, omega arith)
 
 returns : tie.Need-returns Inv-loop μ-loop
 returns c =
@@ -51,10 +38,6 @@ loop-again c = (
   c .before .before .before .before .before .before .loop .inv .2 ∙ hit-missed _ _ _ _ (c .before .before .before .before .before .loop-test .taken) _ _ (c .before .before .before .before .slot-at .ensures .0) (has (c .before)) (c .if1 .left),
 )
 
-levels-at-requires : tie.Need-levels-at-requires Inv-loop μ-loop
-unfolding groupLength
-levels-at-requires c κs = (c .before .before .before .before .before .pre .0, omega arith)
-
 returns-2 : tie.Need-returns-2 Inv-loop μ-loop
 returns-2 c =
     let e : c .before .before .loop .i ≡ c .before .before .before .before .used .result = omega arith in
@@ -62,6 +45,6 @@ returns-2 c =
     (ap Nowhere (c .levels-at .ensures ∙ ap (levelsAt (c .before .before .before .before .before .before .args .b .now)) (sym e)) ∙ sym (c .before .before .loop .inv .2 ∙ hit-nowhere _ _ _ _ (c .before .loop-test .left)))
 
 pub find-spec : {M : Type 1} → statement M
-find-spec = tie.close (tie.spec Inv-loop μ-loop used-requires (λ c. search needs) owner-requires loop-holds
-    slot-at-requires (λ c. search needs) (λ c κs. search needs) (λ c. search needs) returns (λ c. search needs)
-    (λ c. omega arith) loop-again levels-at-requires returns-2)
+find-spec = tie.close (tie.spec Inv-loop μ-loop (λ c κs. search needs) (λ c. search needs) (λ c κs. search needs)
+    loop-holds (λ c κs. search needs) (λ c. search needs) (λ c κs. search needs) (λ c. search needs) returns
+    (λ c. search needs) (λ c. omega arith) loop-again (λ c κs. search needs) returns-2)

@@ -4,7 +4,7 @@ use mathlib.Core.Path.{_≡_, refl, sym, ap, _∙_}
 use Prim.Native.Nat.{_-_, _≤_}
 use native.Mathlib.Omega.{arith}
 use borrow.Author.Needs.{needs}
-use Rattle.group.specs.Layout.{flagOf, ownerOf}
+use Rattle.group.specs.Layout.{ownerOf}
 use Rattle.group.specs.Reading.{everyFrom}
 use Rattle.group.specs.Checking.{inRange, ownersPass}
 use Rattle.group.proofs.Turns.{every-fails, every-holds, every-done, none-pass}
@@ -22,11 +22,7 @@ asked : (c : tie.After-in-range Inv-loop μ-loop) → c .in-range .result ≡ in
 asked c = c .in-range .ensures ∙ ap (inRange (c .before .before .before .before .before .before .before .before .args .ends .now) (c .before .before .before .loop .o)) (c .before .owner .ensures .0)
 
 returns : tie.Need-returns Inv-loop μ-loop
-unfolding flagOf
-returns c = sym (none-pass _ _ (sym (c .before .get-u16 .ensures .0) ∙ c .if1 .taken))
-
-loop-holds : tie.Need-loop-holds Inv-loop μ-loop
-loop-holds c = (omega arith, refl)
+returns c = sym (none-pass _ _ (sym (c .before .flag .ensures) ∙ c .if1 .taken))
 
 returns-2 : tie.Need-returns-2 Inv-loop μ-loop
 returns-2 c = sym (c .before .before .before .before .loop .inv .1 ∙ every-fails _ 256 _ (c .before .before .before .loop-test .taken) _ (asked (c .before)) (not-true _ (c .if2 .taken)))
@@ -38,5 +34,5 @@ returns-3 : tie.Need-returns-3 Inv-loop μ-loop
 returns-3 c = sym (c .before .loop .inv .1 ∙ every-done _ 256 _ (c .loop-test .left))
 
 pub owners-pass-spec : {M : Type 1} → statement M
-owners-pass-spec = tie.close (tie.spec Inv-loop μ-loop (λ c κs. search needs) returns loop-holds (λ c κs. search needs)
-    (λ c κs. search needs) returns-2 (λ c. search needs) (λ c. omega arith) loop-again returns-3)
+owners-pass-spec = tie.close (tie.spec Inv-loop μ-loop (λ c κs. search needs) returns (λ c. search needs)
+    (λ c κs. search needs) (λ c κs. search needs) returns-2 (λ c. search needs) (λ c. omega arith) loop-again returns-3)

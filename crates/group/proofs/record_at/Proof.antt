@@ -2,7 +2,6 @@
 use mathlib.Core.Path.{sym, _∙_}
 use Prim.Native.Nat.{_<_}
 use native.Mathlib.Omega.{arith}
-use Rattle.model.specs.Device.{groupLength}
 use Rattle.group.specs.Layout.{usedOf}
 use Rattle.group.proofs.Slots.{few-used, count-read, slot-read}
 use Rattle.group.proofs.record_at.Statement.{statement}
@@ -12,7 +11,6 @@ inside : (c : tie.After-shared-slice-known) → c .before .args .i < usedOf (c .
 inside c = omega (arith, count-read _ (c .before .pre .1), c .before .pre .2)
 
 slot-at-requires : tie.Need-slot-at-requires
-unfolding groupLength
 slot-at-requires c κs = (c .before .pre .0, omega (arith, inside c, few-used _ (c .before .pre .1)))
 
 returns : tie.Need-returns

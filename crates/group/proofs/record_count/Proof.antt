@@ -1,16 +1,12 @@
 -- `record_count` meets its contract: the group has a record for each used slot.
+use borrow.Author.Needs.{needs}
 use mathlib.Core.Path.{sym, _∙_}
-use Rattle.model.specs.Device.{groupLength}
 use Rattle.group.proofs.Slots.{count-read}
 use Rattle.group.proofs.record_count.Statement.{statement}
 use Rattle.group.proofs.record_count.Tie as tie
-
-used-requires : tie.Need-used-requires
-unfolding groupLength
-used-requires c κs = c .before .pre .0
 
 returns : tie.Need-returns
 returns c = c .used .ensures .0 ∙ sym (count-read _ (c .before .before .pre .1))
 
 pub record-count-spec : {M : Type 1} → statement M
-record-count-spec = tie.close (tie.spec used-requires returns)
+record-count-spec = tie.close (tie.spec (λ c κs. search needs) returns)

@@ -27,12 +27,6 @@ loop-holds c =
     let e = slots-all _ _ (c .used .ensures .0) in
     (omega arith, omega arith, c .before .before .before .pre .2, ap (slotsPass _ _ _ 0 0 _) e, ap (table _) e)
 
-slot-at-requires : tie.Need-slot-at-requires Inv-loop μ-loop
-slot-at-requires c κs = (c .before .before .before .before .before .pre .0, omega arith)
-
-passes-requires : tie.Need-passes-requires Inv-loop μ-loop
-passes-requires c κs = (c .before .before .before .before .before .before .before .pre .0, c .before .before .before .loop .inv .2, c .before .slot-at .ensures .1, c .before .slot-at .ensures .2, c .before .before .before .before .before .before .before .pre .3)
-
 returns : tie.Need-returns Inv-loop μ-loop
 returns c = (
   sym (c .before .before .before .before .before .loop .inv .3 ∙ slot-fails _ _ _ _ _ _ _ _ (c .before .before .before .before .loop-test .taken) _ (c .before .before .before .slot-at .ensures .0) _ (c .before .passes .ensures .0) (not-true _ (c .if1 .taken))),
@@ -62,5 +56,6 @@ returns-2 c =
 
 pub slots-pass-spec : {M : Type 1} → statement M
 slots-pass-spec = tie.close (tie.spec Inv-loop μ-loop (λ c κs. search needs) (λ c. search needs) loop-holds
-    slot-at-requires passes-requires (λ c. omega arith) returns note-requires (λ c. search needs) (λ c. search needs)
-    (λ c. search needs) (λ c. search needs) (λ c. omega arith) loop-again (λ c. omega arith) returns-2)
+    (λ c κs. search needs) (λ c κs. search needs) (λ c. omega arith) returns note-requires (λ c. search needs)
+    (λ c. search needs) (λ c. search needs) (λ c. search needs) (λ c. omega arith) loop-again (λ c. omega arith)
+    returns-2)

@@ -3,11 +3,9 @@ use Rattle.insertion.proofs.Scanning.{before-level, before-other}
 use Rattle.insertion.proofs.before.Statement.{statement}
 use Rattle.insertion.proofs.before.Tie as tie
 
--- src/lib.rt:35:9
 returns : tie.Need-returns
 returns c = λ p x e f. before-level _ _ _ p x e f (c .before .if1 .taken)
 
--- src/lib.rt:30:1
 returns-2 : tie.Need-returns-2
 returns-2 c = λ p x e f. before-other _ _ _ p x e f (c .before .if1 .left)
 

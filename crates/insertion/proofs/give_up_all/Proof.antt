@@ -1,4 +1,5 @@
 -- `give_up_all` meets its contract: at each turn the slots before i have given up, and k are left.
+use borrow.Author.Needs.{needs}
 use mathlib.Core.Path.{_∙_, sym}
 use mathlib.Core.List.{List}
 use native.Mathlib.Omega.{arith}
@@ -15,38 +16,21 @@ Inv-loop b₀ taken k₀ i₀ b k i = (l : List Placed) → Shown b₀ l → Giv
 abbrev μ-loop : tie.MeasureT-loop
 μ-loop b₀ taken k₀ i₀ b k i = k
 
--- src/lib.rt:169:9
-used-requires : tie.Need-used-requires Inv-loop μ-loop
-used-requires c κs = c .before .before .before .pre .0 .shown .size
-
--- src/lib.rt:171:5
 loop-holds : tie.Need-loop-holds Inv-loop μ-loop
 loop-holds c = λ l shown. giving-start _ l _ _ shown (c .used .ensures .1)
 
--- src/lib.rt:172:9
 give-up-requires : tie.Need-give-up-requires Inv-loop μ-loop
 give-up-requires c κs = let g = c .before .before .loop .inv (c .before .before .before .before .before .before .before .pre .0 .list) (c .before .before .before .before .before .before .before .pre .0 .shown) in (record { list = _; shown = g .shown }, giving-inside _ _ _ _ _ (c .before .loop-test .taken) g, c .before .before .before .before .before .before .before .pre .1)
 
--- src/lib.rt:173:9
-sub-k : tie.Need-sub-k Inv-loop μ-loop
-sub-k c = c .before .before .before .before .loop-test .taken
-
--- src/lib.rt:171:5
-loop-less : tie.Need-loop-less Inv-loop μ-loop
-loop-less c = omega (arith, c .before .before .before .before .loop-test .taken)
-
--- src/lib.rt:171:5
 loop-again : tie.Need-loop-again Inv-loop μ-loop
 loop-again c = λ l shown. giving-turn _ l _ _ _ _ _ (c .before .before .before .before .loop-test .taken) (c .before .before .before .before .before .loop .inv l shown) (c .before .before .give-up .ensures)
 
--- src/lib.rt:165:1
 same-length : tie.Need-same-length Inv-loop μ-loop
 same-length c = let g = c .before .loop .inv (c .before .before .before .before .before .before .pre .0 .list) (c .before .before .before .before .before .before .pre .0 .shown) in g .shown .size ∙ sym (c .before .before .before .before .before .before .pre .0 .shown .size)
 
--- src/lib.rt:165:1
 returns : tie.Need-returns Inv-loop μ-loop
 returns c = λ l shown. giving-end _ l _ _ _ (c .loop-test .left) (c .before .loop .inv l shown)
 
 pub give-up-all-spec : {M : Type 1} → statement M
-give-up-all-spec = tie.close (tie.spec Inv-loop μ-loop used-requires loop-holds give-up-requires sub-k loop-less
-    loop-again same-length returns)
+give-up-all-spec = tie.close (tie.spec Inv-loop μ-loop (λ c κs. search needs) loop-holds give-up-requires
+    (λ c. search needs) (λ c. search needs) loop-again same-length returns)

@@ -7,7 +7,7 @@ use lib.ListN.{length}
 use Rattle.group.specs.declared.Slot.{Slot}
 use Rattle.group.specs.Layout.{slotsOf}
 use Rattle.model.specs.Lists.{all}
-use Rattle.slots.specs.Edits.{canRise}
+use Rattle.slots.specs.Edits.{canGoDown}
 use Rattle.insertion.proofs.Moves.{removeAt-length}
 use Rattle.insertion.proofs.ListWrites.{all-remove}
 use Rattle.insertion.proofs.Sinking.{lower-shown}
@@ -15,25 +15,17 @@ use borrow.Author.Needs.{needs}
 use Rattle.insertion.proofs.lower.Statement.{statement}
 use Rattle.insertion.proofs.lower.Tie as tie
 
--- src/lib.rt:198:9
 get-requires : tie.Need-get-requires
 get-requires c κs = (shown-room _ _ (c .before .before .pre .0 .shown), c .before .before .pre .1)
 
--- src/lib.rt:200:5
 remove-requires : tie.Need-remove-requires
 remove-requires c κs = (shown-room _ _ (c .before .before .before .before .before .pre .0 .shown), c .before .before .before .before .before .pre .1)
 
--- src/lib.rt:201:5
 sink-in-requires : tie.Need-sink-in-requires
-sink-in-requires c κs = (c .before .before .before .remove .ensures .0, omega (arith, shown-room _ _ (c .before .before .before .before .before .before .before .before .before .pre .0 .shown) .1, c .before .before .before .before .before .before .before .before .before .pre .1, removeAt-length (c .before .before .before .before .before .before .before .before .before .args .i) (slotsOf (c .before .before .before .before .before .before .before .before .before .args .b .now)) (c .before .before .before .before .before .before .before .before .before .pre .1), ap (λ (k : List Slot). length k) (c .before .before .before .remove .ensures .1)), c .before .before .before .before .before .before .get .ensures .1 .1, ap (all canRise) (c .before .before .before .remove .ensures .1) ∙ all-remove canRise (c .before .before .before .before .before .before .before .before .before .args .i) (slotsOf (c .before .before .before .before .before .before .before .before .before .args .b .now)) (c .before .before .before .before .before .before .before .before .before .pre .2))
+sink-in-requires c κs = (c .before .before .before .remove .ensures .0, omega (arith, shown-room _ _ (c .before .before .before .before .before .before .before .before .before .pre .0 .shown) .1, c .before .before .before .before .before .before .before .before .before .pre .1, removeAt-length (c .before .before .before .before .before .before .before .before .before .args .i) (slotsOf (c .before .before .before .before .before .before .before .before .before .args .b .now)) (c .before .before .before .before .before .before .before .before .before .pre .1), ap (λ (k : List Slot). length k) (c .before .before .before .remove .ensures .1)), c .before .before .before .before .before .before .get .ensures .1 .1, ap (all canGoDown) (c .before .before .before .remove .ensures .1) ∙ all-remove canGoDown (c .before .before .before .before .before .before .before .before .before .args .i) (slotsOf (c .before .before .before .before .before .before .before .before .before .args .b .now)) (c .before .before .before .before .before .before .before .before .before .pre .2))
 
--- src/lib.rt:194:1
-same-length : tie.Need-same-length
-same-length c = search needs
-
--- src/lib.rt:194:1
 returns : tie.Need-returns
 returns c = lower-shown _ _ _ _ _ (c .before .before .before .before .before .before .before .before .before .before .before .before .pre .1) (c .before .before .before .before .before .before .before .before .before .get .ensures .0) (c .before .before .before .before .before .before .remove .ensures) (c .before .before .sink-in .ensures)
 
 pub lower-spec : {M : Type 1} → statement M
-lower-spec = tie.close (tie.spec get-requires remove-requires sink-in-requires same-length returns)
+lower-spec = tie.close (tie.spec get-requires remove-requires sink-in-requires (λ c. search needs) returns)

@@ -1,4 +1,5 @@
 -- `meets_at` meets its contract: at each turn none of the slots before j meets the record.
+use borrow.Author.Needs.{needs}
 use Prim.Native.Nat.{_-_, _≤_}
 use native.Mathlib.Omega.{arith}
 use lib.ListN.{length}
@@ -13,42 +14,15 @@ Inv-loop b n r m j₀ j = (j ≤ m) × Looking (slotsOf b) n r j
 abbrev μ-loop : tie.MeasureT-loop
 μ-loop b n r m j₀ j = m - j
 
--- src/lib.rt:73:9
-used-requires : tie.Need-used-requires Inv-loop μ-loop
-used-requires c κs = c .before .pre .0
-
--- src/lib.rt:75:5
-loop-holds : tie.Need-loop-holds Inv-loop μ-loop
-loop-holds c = (omega arith, look-start _ _ _)
-
--- src/lib.rt:76:13
-get-requires : tie.Need-get-requires Inv-loop μ-loop
-get-requires c κs = (c .before .before .before .before .pre, omega (arith, c .before .before .used .ensures .1))
-
--- src/lib.rt:77:12
-meets-there-requires : tie.Need-meets-there-requires Inv-loop μ-loop
-meets-there-requires c κs = tt
-
--- src/lib.rt:78:13
 returns : tie.Need-returns Inv-loop μ-loop
 returns c = look-found _ _ _ _ (c .before .before .before .before .loop .inv .1) _ _ (omega (arith, c .before .before .before .before .before .used .ensures .1)) (c .before .before .get .ensures .0) (c .before .meets-there .ensures) (c .if1 .taken)
 
--- src/lib.rt:80:9
-add-j : tie.Need-add-j Inv-loop μ-loop
-add-j c = omega arith
-
--- src/lib.rt:75:5
-loop-less : tie.Need-loop-less Inv-loop μ-loop
-loop-less c = omega arith
-
--- src/lib.rt:75:5
 loop-again : tie.Need-loop-again Inv-loop μ-loop
 loop-again c = (omega arith, look-turn _ _ _ _ (c .before .before .before .before .loop .inv .1) _ _ (omega (arith, c .before .before .before .before .before .used .ensures .1)) (c .before .before .get .ensures .0) (c .before .meets-there .ensures) (c .if1 .left))
 
--- src/lib.rt:69:1
 returns-2 : tie.Need-returns-2 Inv-loop μ-loop
 returns-2 c = let n : length (slotsOf (c .before .before .before .before .args .b .now)) ≤ c .before .loop .j = omega (arith, c .before .before .used .ensures .1) in look-end _ _ _ _ (c .before .loop .inv .1) n
 
 pub meets-at-spec : {M : Type 1} → statement M
-meets-at-spec = tie.close (tie.spec Inv-loop μ-loop used-requires loop-holds get-requires meets-there-requires returns
-    add-j loop-less loop-again returns-2)
+meets-at-spec = tie.close (tie.spec Inv-loop μ-loop (λ c κs. search needs) (λ c. search needs) (λ c κs. search needs)
+    (λ c κs. search needs) returns (λ c. omega arith) (λ c. omega arith) loop-again returns-2)

@@ -1,4 +1,5 @@
 -- `place_of` meets its contract: at each turn the slots before i stand before the record.
+use borrow.Author.Needs.{needs}
 use Prim.Native.Nat.{_-_, _≤_}
 use native.Mathlib.Omega.{arith}
 use borrow.Author.Tests.{not-true, not-false}
@@ -14,42 +15,15 @@ Inv-loop b n start k i₀ i = (i ≤ k) × Passing (slotsOf b) n start i
 abbrev μ-loop : tie.MeasureT-loop
 μ-loop b n start k i₀ i = k - i
 
--- src/lib.rt:45:9
-used-requires : tie.Need-used-requires Inv-loop μ-loop
-used-requires c κs = c .before .pre .0
-
--- src/lib.rt:47:5
-loop-holds : tie.Need-loop-holds Inv-loop μ-loop
-loop-holds c = (omega arith, pass-start _ _ _)
-
--- src/lib.rt:48:13
-get-requires : tie.Need-get-requires Inv-loop μ-loop
-get-requires c κs = (c .before .before .before .before .pre, omega (arith, c .before .before .used .ensures .1))
-
--- src/lib.rt:49:13
-before-requires : tie.Need-before-requires Inv-loop μ-loop
-before-requires c κs = tt
-
--- src/lib.rt:50:13
 returns : tie.Need-returns Inv-loop μ-loop
 returns c = (omega (arith, c .before .before .before .before .before .used .ensures .1), pass-stop _ _ _ _ (c .before .before .before .before .loop .inv .1) _ _ (omega (arith, c .before .before .before .before .before .used .ensures .1)) (c .before .before .get .ensures .0) (c .before .before2 .ensures) (not-true _ (c .if1 .taken)))
 
--- src/lib.rt:52:9
-add-i : tie.Need-add-i Inv-loop μ-loop
-add-i c = omega arith
-
--- src/lib.rt:47:5
-loop-less : tie.Need-loop-less Inv-loop μ-loop
-loop-less c = omega arith
-
--- src/lib.rt:47:5
 loop-again : tie.Need-loop-again Inv-loop μ-loop
 loop-again c = (omega arith, pass-turn _ _ _ _ (c .before .before .before .before .loop .inv .1) _ _ (omega (arith, c .before .before .before .before .before .used .ensures .1)) (c .before .before .get .ensures .0) (c .before .before2 .ensures) (not-false _ (c .if1 .left)))
 
--- src/lib.rt:41:1
 returns-2 : tie.Need-returns-2 Inv-loop μ-loop
 returns-2 c = (omega (arith, c .before .before .used .ensures .1), let n : length (slotsOf (c .before .before .before .before .args .b .now)) ≤ c .before .loop .i = omega (arith, c .before .before .used .ensures .1) in pass-end _ _ _ _ (c .before .loop .inv .1) n)
 
 pub place-of-spec : {M : Type 1} → statement M
-place-of-spec = tie.close (tie.spec Inv-loop μ-loop used-requires loop-holds get-requires before-requires returns add-i
-    loop-less loop-again returns-2)
+place-of-spec = tie.close (tie.spec Inv-loop μ-loop (λ c κs. search needs) (λ c. search needs) (λ c κs. search needs)
+    (λ c κs. search needs) returns (λ c. omega arith) (λ c. omega arith) loop-again returns-2)

@@ -11,72 +11,31 @@ use borrow.Author.Needs.{needs}
 use Rattle.insertion.proofs.shrink_owner.Statement.{statement}
 use Rattle.insertion.proofs.shrink_owner.Tie as tie
 
--- src/lib.rt:90:9
 get-requires : tie.Need-get-requires
 get-requires c κs = (shown-room _ _ (c .before .before .before .pre .0 .shown), c .before .before .before .pre .1)
 
--- src/lib.rt:94:37
-slice-aggregate-left-to : tie.Need-slice-aggregate-left-to
-slice-aggregate-left-to c = search needs
-
--- src/lib.rt:94:5
-left-to-requires : tie.Need-left-to-requires
-left-to-requires c κs = search needs
-
--- src/lib.rt:95:35
-slice-aggregate-shrink-approximate : tie.Need-slice-aggregate-shrink-approximate
-slice-aggregate-shrink-approximate c = search needs
-
--- src/lib.rt:95:11
 shrink-approximate-requires : tie.Need-shrink-approximate-requires
 shrink-approximate-requires c κs = (c .before .before .left-to .ensures .0, kind-slot _ _ _ (c .before .before .before .before .before .before .before .before .before .before .pre .1) (c .before .before .before .before .before .before .get .ensures .0) _ (c .before .before .before .before .before .before .before .before .before .before .pre .0) (c .before .before .before .before .before .before .before .before .before .before .pre .3))
 
--- src/lib.rt:96:20
-enum-known-u : tie.Need-enum-known-u
-enum-known-u c = search needs
-
--- src/lib.rt:97:40
-slice-aggregate-hand-over : tie.Need-slice-aggregate-hand-over
-slice-aggregate-hand-over c = search needs
-
--- src/lib.rt:97:13
 hand-over-requires : tie.Need-hand-over-requires
 hand-over-requires c κs = (shown-room _ _ (c .before .before .before .before .before .before .before .before .before .before .before .before .before .before .before .before .pre .0 .shown), c .before .before .before .before .before .before .before .before .before .before .before .before .get .ensures .1 .1 .0, c .before .before .before .before .before .before .before .before .left-to .ensures .0, owner-eight _ _ _ (c .before .before .before .before .before .before .before .before .before .before .before .before .before .before .before .before .pre .1) (c .before .before .before .before .before .before .before .before .before .before .before .before .get .ensures .0) (c .before .before .before .before .before .before .before .before .before .before .before .before .before .before .before .before .args .taken .now) _ (c .before .before .before .before .before .before .before .before .before .before .before .before .before .before .before .before .pre .3) (c .before .before .before .before .before .before .before .before .left-to .last .1 .1 .1 .0) (c .before .before .before .before .before .before .before .before .left-to .ensures .1) (c .before .before .before .before .before .shrink-approximate .ensures) (c .before .before .before .before .before .before .before .before .before .before .before .before .before .before .before .before .pre .0) _ (c .before .before .before .u .given .1) .0)
 
--- src/lib.rt:98:13
 put-requires : tie.Need-put-requires
 put-requires c κs = (reading.shown-room _ (c .before .before .before .hand-over .ensures) (shown-room _ _ (c .before .before .before .before .before .before .before .before .before .before .before .before .before .before .before .before .before .before .before .before .pre .0 .shown) .1), omega (arith, c .before .before .before .before .before .before .before .before .before .before .before .before .before .before .before .before .before .before .before .before .pre .1, ap (λ (k : List Slot). length k) (c .before .before .before .hand-over .ensures .1)), (c .before .before .before .before .before .before .before .before .before .before .before .before .before .before .before .before .get .ensures .1 .0, owner-eight _ _ _ (c .before .before .before .before .before .before .before .before .before .before .before .before .before .before .before .before .before .before .before .before .pre .1) (c .before .before .before .before .before .before .before .before .before .before .before .before .before .before .before .before .get .ensures .0) (c .before .before .before .before .before .before .before .before .before .before .before .before .before .before .before .before .before .before .before .before .args .taken .now) _ (c .before .before .before .before .before .before .before .before .before .before .before .before .before .before .before .before .before .before .before .before .pre .3) (c .before .before .before .before .before .before .before .before .before .before .before .before .left-to .last .1 .1 .1 .0) (c .before .before .before .before .before .before .before .before .before .before .before .before .left-to .ensures .1) (c .before .before .before .before .before .before .before .before .before .shrink-approximate .ensures) (c .before .before .before .before .before .before .before .before .before .before .before .before .before .before .before .before .before .before .before .before .pre .0) _ (c .before .before .before .before .before .before .before .u .given .1)))
 
--- src/lib.rt:99:13
-same-length : tie.Need-same-length
-same-length c = search needs
-
--- src/lib.rt:99:13
 returns : tie.Need-returns
 returns c = owner-kept _ _ _ (c .before .before .before .before .before .before .before .before .before .before .before .before .before .before .before .before .before .before .before .before .before .before .before .pre .1) (c .before .before .before .before .before .before .before .before .before .before .before .before .before .before .before .before .before .before .before .get .ensures .0) (c .before .before .before .before .before .before .before .before .before .before .before .before .before .before .before .before .before .before .before .before .before .before .before .args .taken .now) _ (c .before .before .before .before .before .before .before .before .before .before .before .before .before .before .before .before .before .before .before .before .before .before .before .pre .3) (c .before .before .before .before .before .before .before .before .before .before .before .before .before .before .before .left-to .last .1 .1 .1 .0) (c .before .before .before .before .before .before .before .before .before .before .before .before .before .before .before .left-to .ensures .1) (c .before .before .before .before .before .before .before .before .before .before .before .before .shrink-approximate .ensures) _ (c .before .before .before .before .before .before .before .before .before .before .u .given .1) _ _ (c .before .before .before .before .before .before .hand-over .ensures) (c .before .before .put .ensures)
 
--- src/lib.rt:102:27
-enum-told : tie.Need-enum-told
-enum-told c = search needs
-
--- src/lib.rt:102:13
 disown-requires : tie.Need-disown-requires
 disown-requires c κs = (shown-room _ _ (c .before .before .before .before .before .before .before .before .before .before .before .before .before .before .pre .0 .shown), omega (arith, c .before .before .before .before .before .before .before .before .before .before .get .ensures .1 .1 .0))
 
--- src/lib.rt:103:13
 remove-requires : tie.Need-remove-requires
 remove-requires c κs = (reading.shown-room _ (c .before .before .before .disown .ensures) (shown-room _ _ (c .before .before .before .before .before .before .before .before .before .before .before .before .before .before .before .before .before .before .pre .0 .shown) .1), omega (arith, c .before .before .before .before .before .before .before .before .before .before .before .before .before .before .before .before .before .before .pre .1, ap (λ (k : List Slot). length k) (c .before .before .before .disown .ensures .1)))
 
--- src/lib.rt:104:13
-same-length-2 : tie.Need-same-length-2
-same-length-2 c = search needs
-
--- src/lib.rt:104:13
 returns-2 : tie.Need-returns-2
 returns-2 c = owner-gone _ _ _ (c .before .before .before .before .before .before .before .before .before .before .before .before .before .before .before .before .before .before .before .before .before .pre .1) (c .before .before .before .before .before .before .before .before .before .before .before .before .before .before .before .before .before .get .ensures .0) (c .before .before .before .before .before .before .before .before .before .before .before .before .before .before .before .before .before .before .before .before .before .args .taken .now) _ (c .before .before .before .before .before .before .before .before .before .before .before .before .before .before .before .before .before .before .before .before .before .pre .3) (c .before .before .before .before .before .before .before .before .before .before .before .before .before .left-to .last .1 .1 .1 .0) (c .before .before .before .before .before .before .before .before .before .before .before .before .before .left-to .ensures .1) (c .before .before .before .before .before .before .before .before .before .before .shrink-approximate .ensures) (c .before .before .before .before .before .before .before .before .enum-told .given .1) _ _ (c .before .before .before .before .before .before .disown .ensures) (c .before .before .remove .ensures)
 
 pub shrink-owner-spec : {M : Type 1} → statement M
-shrink-owner-spec = tie.close (tie.spec get-requires slice-aggregate-left-to left-to-requires
-    slice-aggregate-shrink-approximate shrink-approximate-requires enum-known-u slice-aggregate-hand-over
-    hand-over-requires put-requires same-length returns enum-told disown-requires remove-requires same-length-2
-    returns-2)
+shrink-owner-spec = tie.close (tie.spec get-requires (λ c. search needs) (λ c κs. search needs) (λ c. search needs)
+    shrink-approximate-requires (λ c. search needs) (λ c. search needs) hand-over-requires put-requires
+    (λ c. search needs) returns (λ c. search needs) disown-requires remove-requires (λ c. search needs) returns-2)

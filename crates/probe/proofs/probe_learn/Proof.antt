@@ -1,4 +1,5 @@
 -- The runs before the place are stored, and what is left makes the whole.
+use borrow.Author.Needs.{needs}
 use Prim.Native.Nat.{_-_}
 use mathlib.Core.Path.{sym, subst}
 use native.Mathlib.Omega.{arith}
@@ -27,29 +28,14 @@ run c = held _ _ _ (c .loop-test .taken) (c .before .before .before .before .bef
 loop-holds : tie.Need-loop-holds Inv-loop μ-loop
 loop-holds c = (stored-start _ _ _, bytes-start _ _ _)
 
-run-at-requires : tie.Need-run-at-requires Inv-loop μ-loop
-run-at-requires c κs = let pre = c .before .before .before .before .before .pre .0 in (record { ascends = pre .0; size = pre .1; pages = pre .2; bound = pre .3 }, c .loop-test .taken)
-
-mul-encode : tie.Need-mul-encode Inv-loop μ-loop
-mul-encode c = omega (arith, c .before .before .before .before .loop .inv .0 .few, c .before .before .before .before .before .before .before .before .pre .0 .1, c .before .before .before .loop-test .taken)
-
 encode-requires : tie.Need-encode-requires Inv-loop μ-loop
 encode-requires c κs = (omega (arith, c .before .before .before .before .loop .inv .1 .kept, c .before .before .before .before .loop .inv .0 .few, c .before .before .before .loop-test .taken, c .before .before .before .before .before .before .before .before .pre .1 .0), subst (λ (r : Record). InEight r) (sym (c .before .before .run-at .ensures .0)) (run (c .before .before .before) .bytes))
 
 cast-taken : tie.Need-cast-taken Inv-loop μ-loop
 cast-taken c = omega (arith, c .before .before .before .before .before .before .run-at .ensures .1, run (c .before .before .before .before .before .before .before) .inside, c .before .before .before .before .before .before .before .before .before .before .before .before .pre .0 .1)
 
-mul-taken : tie.Need-mul-taken Inv-loop μ-loop
-mul-taken c = omega (arith, c .before .before .before .before .before .before .before .before .loop .inv .0 .few, c .before .before .before .before .before .before .before .before .before .before .before .before .pre .0 .1, c .before .before .before .before .before .before .before .loop-test .taken)
-
-slice-write-taken : tie.Need-slice-write-taken Inv-loop μ-loop
-slice-write-taken c = omega (arith, c .before .before .before .before .before .before .before .before .loop .inv .0 .kept, c .before .before .before .before .before .before .before .before .loop .inv .0 .few, c .before .before .before .before .before .before .before .loop-test .taken, c .before .before .before .before .before .before .before .before .before .before .before .before .pre .1 .1)
-
 add-i : tie.Need-add-i Inv-loop μ-loop
 add-i c = omega (arith, c .before .before .before .before .before .before .before .run-at .ensures .1, run (c .before .before .before .before .before .before .before .before) .inside, c .before .before .before .before .before .before .before .before .before .before .before .before .before .pre .0 .1)
-
-add-n : tie.Need-add-n Inv-loop μ-loop
-add-n c = omega (arith, c .before .before .before .before .before .before .before .before .before .loop .inv .0 .few, c .before .before .before .before .before .before .before .before .before .before .before .before .before .pre .0 .1, c .before .before .before .before .before .before .before .before .loop-test .taken)
 
 loop-less : tie.Need-loop-less Inv-loop μ-loop
 loop-less c = omega (arith, c .before .before .before .before .before .before .before .run-at .ensures .1, run (c .before .before .before .before .before .before .before .before) .inside, run (c .before .before .before .before .before .before .before .before) .filled)
@@ -62,12 +48,6 @@ loop-again c =
     let less = c .before .before .before .before .before .before .before .before .loop-test .taken in
     (stored-next _ _ _ _ _ _ (so .0) less (h .filled) _ (e .1) (omega (arith, e .1, h .inside)), bytes-next _ _ _ _ _ _ (so .0) _ _ (so .1) less (h .filled) _ (e .1) _ (e .0) _ (c .before .before .before .before .encode .ensures))
 
-same-length : tie.Need-same-length Inv-loop μ-loop
-same-length c = c .before .loop .inv .1 .kept
-
-same-length-2 : tie.Need-same-length-2 Inv-loop μ-loop
-same-length-2 c = c .before .loop .inv .0 .kept
-
 returns : tie.Need-returns Inv-loop μ-loop
 unfolding learn
 returns c =
@@ -76,5 +56,6 @@ returns c =
     (e .0, (bytes-all _ _ _ _ _ _ (so .0) _ _ (so .1) (c .loop-test .left), e .1))
 
 pub probe-learn-spec : {M : Type 1} → statement M
-probe-learn-spec = tie.close (tie.spec Inv-loop μ-loop loop-holds run-at-requires mul-encode encode-requires cast-taken
-    mul-taken slice-write-taken add-i add-n loop-less loop-again same-length same-length-2 returns)
+probe-learn-spec = tie.close (tie.spec Inv-loop μ-loop loop-holds (λ c κs. search needs) (λ c. search needs)
+    encode-requires cast-taken (λ c. search needs) (λ c. search needs) add-i (λ c. search needs) loop-less loop-again
+    (λ c. search needs) (λ c. search needs) returns)

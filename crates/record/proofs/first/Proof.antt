@@ -1,4 +1,5 @@
 -- `first` meets its contract: at each turn those before o fail the test.
+use borrow.Author.Needs.{needs}
 use native.Mathlib.Omega.{arith}
 use Prim.Native.Nat.{_+_, _-_}
 use mathlib.Core.Path.{sym, _∙_}
@@ -16,9 +17,6 @@ abbrev μ-loop : tie.MeasureT-loop
 loop-holds : tie.Need-loop-holds Inv-loop μ-loop
 loop-holds c = up-start _ _ _
 
-staying-requires : tie.Need-staying-requires Inv-loop μ-loop
-staying-requires c κs = (c .before .before .before .pre .0, omega arith)
-
 returns : tie.Need-returns Inv-loop μ-loop
 returns c = (c .before .before .before .loop .inv, λ h. sym (c .before .staying .ensures) ∙ c .if1 .taken)
 
@@ -29,5 +27,5 @@ returns-2 : tie.Need-returns-2 Inv-loop μ-loop
 returns-2 c = (c .before .loop .inv, λ h. absurd (let z : ⊥ = omega arith in z))
 
 pub first-spec : {M : Type 1} → statement M
-first-spec = tie.close (tie.spec Inv-loop μ-loop loop-holds staying-requires returns (λ c. omega arith)
+first-spec = tie.close (tie.spec Inv-loop μ-loop loop-holds (λ c κs. search needs) returns (λ c. omega arith)
     (λ c. omega arith) loop-again returns-2)

@@ -1,4 +1,5 @@
 -- `last` meets its contract: at each turn those after o fail the test; f passes it.
+use borrow.Author.Needs.{needs}
 use native.Mathlib.Omega.{arith}
 use mathlib.Core.Path.{_≡_, sym, ap, _∙_}
 use Rattle.record.specs.Scan.{stays, FailedAfter}
@@ -15,9 +16,6 @@ abbrev μ-loop : tie.MeasureT-loop
 loop-holds : tie.Need-loop-holds Inv-loop μ-loop
 loop-holds c = down-start _ _ _ _ (c .before .pre .2) (c .before .pre .4)
 
-staying-requires : tie.Need-staying-requires Inv-loop μ-loop
-staying-requires c κs = (c .before .before .before .pre .0, omega arith)
-
 returns : tie.Need-returns Inv-loop μ-loop
 returns c = (c .before .before .before .loop .inv, sym (c .before .staying .ensures) ∙ c .if1 .taken)
 
@@ -33,5 +31,5 @@ returns-2 c =
     (c .before .loop .inv, ap (stays _ _) e ∙ c .before .before .before .pre .5)
 
 pub last-spec : {M : Type 1} → statement M
-last-spec = tie.close (tie.spec Inv-loop μ-loop loop-holds staying-requires returns sub-o (λ c. omega arith) loop-again
-    returns-2)
+last-spec = tie.close (tie.spec Inv-loop μ-loop loop-holds (λ c κs. search needs) returns sub-o (λ c. omega arith)
+    loop-again returns-2)

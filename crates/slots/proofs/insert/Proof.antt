@@ -6,14 +6,6 @@ use borrow.Author.Needs.{needs}
 use Rattle.slots.proofs.insert.Statement.{statement}
 use Rattle.slots.proofs.insert.Tie as tie
 
-open-slot-requires : tie.Need-open-slot-requires
-unfolding groupLength
-open-slot-requires c κs = search needs
-
-put-u16-requires : tie.Need-put-u16-requires
-unfolding groupLength
-put-u16-requires c κs = search needs
-
 returns : tie.Need-returns
 returns c =
     let start = c .before .before .before .before .before .before .before .before .before .before .before .before .before .before .before in
@@ -22,5 +14,6 @@ returns c =
     (c .before .before .before .before .before .before .before .before .before .before .open-slot .ensures) (c .before .before .before .before .before .before .write .ensures) (c .before .before .put-u16 .ensures)
 
 pub insert-spec : {M : Type 1} → statement M
-insert-spec = tie.close (tie.spec (λ c κs. search needs) (λ c. search needs) open-slot-requires (λ c κs. search needs)
-    (λ c. search needs) put-u16-requires (λ c. search needs) returns)
+insert-spec = tie.close (tie.spec (λ c κs. search needs) (λ c. search needs)
+    (λ c κs. unfold groupLength in search needs) (λ c κs. search needs) (λ c. search needs)
+    (λ c κs. unfold groupLength in search needs) (λ c. search needs) returns)

@@ -1,29 +1,24 @@
 -- `left_to` meets its contract: at each turn the mask has its new bytes before o.
+use borrow.Author.Needs.{needs}
 use mathlib.Core.Path.{_≡_, sym, ap, _∙_}
 use native.Mathlib.Omega.{arith}
 use Prim.Native.Nat.{_-_}
 use Rattle.slots.proofs.Passes.{Passed, passed-start, passed-end, mask-turn}
 use lib.ListN.{length, length-set}
 use Rattle.record.specs.Scan.{masked}
-use Rattle.group.specs.Layout.{ownerOf}
+use Rattle.group.specs.Layout.{offsets, ownerOf}
 use Rattle.slots.specs.Owners.{leftTo}
 use Rattle.slots.proofs.left_to.Statement.{statement}
 use Rattle.slots.proofs.left_to.Tie as tie
 
 abbrev Inv-loop : tie.InvT-loop
-Inv-loop b start taken left₀ o₀ left o = (length left ≡ 256) × Passed (λ k z. leftTo start (masked taken k) (ownerOf b k)) (masked left₀) (masked left) o
+Inv-loop b start taken left₀ o₀ left o = (length left ≡ offsets) × Passed (λ k. leftTo start (masked taken k) (ownerOf b k)) (masked left₀) (masked left) o
 
 abbrev μ-loop : tie.MeasureT-loop
-μ-loop b start taken left₀ o₀ left o = 256 - o
+μ-loop b start taken left₀ o₀ left o = offsets - o
 
 loop-holds : tie.Need-loop-holds Inv-loop μ-loop
 loop-holds c = (c .before .before .before .pre .3, passed-start _ _)
-
-owner-requires : tie.Need-owner-requires Inv-loop μ-loop
-owner-requires c κs = (c .before .before .before .before .before .pre .0, c .loop-test .taken)
-
-staying-requires : tie.Need-staying-requires Inv-loop μ-loop
-staying-requires c κs = c .before .before .before .before .before .before .before .pre .1
 
 loop-again : tie.Need-loop-again Inv-loop μ-loop
 loop-again c =
@@ -31,13 +26,10 @@ loop-again c =
     let stays = c .staying .ensures ∙ ap (leftTo _ _) (c .before .before .owner .ensures .0) in
     (simp length-set (so .inv .0), mask-turn _ _ (so .left) _ (c .staying .result) (so .inv .0) (so .inv .1) (c .before .before .before .loop-test .taken) stays)
 
-same-length : tie.Need-same-length Inv-loop μ-loop
-same-length c = c .before .loop .inv .0 ∙ sym (c .before .before .before .before .before .pre .3)
-
 returns : tie.Need-returns Inv-loop μ-loop
 returns c = (c .before .loop .inv .0, passed-end _ _ _ _ (c .before .loop .inv .1) (c .loop-test .left))
 
 pub left-to-spec : {M : Type 1} → statement M
-left-to-spec = tie.close (tie.spec Inv-loop μ-loop loop-holds owner-requires (λ c. omega arith) (λ c. omega arith)
-    staying-requires (λ c. omega arith) (λ c. omega arith) (λ c. omega arith) (λ c. omega arith) loop-again same-length
-    returns)
+left-to-spec = tie.close (tie.spec Inv-loop μ-loop loop-holds (λ c κs. search needs) (λ c. omega arith)
+    (λ c. omega arith) (λ c κs. search needs) (λ c. omega arith) (λ c. omega arith) (λ c. omega arith)
+    (λ c. omega arith) loop-again (λ c. search needs) returns)

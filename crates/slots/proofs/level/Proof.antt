@@ -1,22 +1,17 @@
--- `level` meets its contract: the level behind the record of a used slot.
-use Rattle.model.specs.Device.{groupLength}
-use Rattle.group.specs.Layout.{slotLevel, slotOf}
-use Rattle.slots.proofs.Reading.{getD-slotsOf}
+-- `level` meets its contract: the level of a used slot.
 use mathlib.Core.Path.{sym, ap, _∙_}
 use Rattle.group.specs.declared.Slot.{Slot}
+use Rattle.group.specs.Layout.{slotOf}
+use Rattle.group.proofs.Slots.{getD-slotsOf}
 use borrow.Author.Needs.{needs}
 use Rattle.slots.proofs.level.Statement.{statement}
 use Rattle.slots.proofs.level.Tie as tie
 
-get-u16-requires : tie.Need-get-u16-requires
-unfolding groupLength
-get-u16-requires c κs = search needs
-
 returns : tie.Need-returns
-unfolding slotOf slotLevel
+unfolding slotOf
 returns c =
-    let read = c .get-u16 .ensures in
+    let read = c .level .ensures in
     (read .0 ∙ sym (ap (λ (s : Slot). s .level) (getD-slotsOf _ _ (c .before .before .pre .1))), read .1)
 
 pub level-spec : {M : Type 1} → statement M
-level-spec = tie.close (tie.spec (λ c. search needs) (λ c. search needs) (λ c. search needs) get-u16-requires returns)
+level-spec = tie.close (tie.spec (λ c κs. search needs) returns)

@@ -1,20 +1,18 @@
--- `own` meets its contract: the owners are opened, then those of the mask set.
-use Rattle.slots.proofs.Reading.{shown-room}
-use Rattle.slots.proofs.Owning.{then-owned}
+-- `own` meets its contract: the entries of the mask's offsets are set, then the flag, by which they are read.
+use native.Mathlib.Omega.{arith}
+use Rattle.model.specs.Device.{groupLength}
+use Rattle.slots.proofs.OwnerWrites.{flag-stored}
+use Rattle.slots.proofs.Passes.{renamed-shows}
 use borrow.Author.Needs.{needs}
 use Rattle.slots.proofs.own.Statement.{statement}
 use Rattle.slots.proofs.own.Tie as tie
 
-own-all-requires : tie.Need-own-all-requires
-own-all-requires c κs =
-    let start = c .before .before .before .before .before .before .before in
-    let after = c .before .before .before .open-owners .ensures in
-    (shown-room _ (after .0) (start .pre .0 .1), after .1, start .pre .1, start .pre .2)
-
 returns : tie.Need-returns
 returns c =
-    let start = c .before .before .before .before .before .before .before .before .before .before in
-    then-owned _ _ _ (start .args .mask .now) _ (c .before .before .before .before .before .before .open-owners .ensures .0) (c .before .before .own-all .ensures)
+    let done = c .before .before .before .before .before .before .own-all .ensures in
+    let after = flag-stored _ _ _ (done .room) (omega arith) (c .before .before .put-u16 .ensures) in
+    renamed-shows _ _ _ _ done (after .room) (after .slots) (after .entries) (λ e. omega (arith, after .flag))
 
 pub own-spec : {M : Type 1} → statement M
-own-spec = tie.close (tie.spec (λ c κs. search needs) own-all-requires (λ c. search needs) returns)
+own-spec = tie.close (tie.spec (λ c κs. search needs) (λ c κs. unfold groupLength in search needs) (λ c. search needs)
+    returns)

@@ -1,9 +1,11 @@
 -- `own_all` meets its contract: at each turn the offsets before o have their new owners.
+use borrow.Author.Needs.{needs}
 use mathlib.Core.Path.{sym, _∙_}
 use native.Mathlib.Omega.{arith}
 use Prim.Native.Nat.{_-_}
 use Rattle.slots.proofs.Passes.{Renaming, rename-start, rename-turn, rename-end}
 use Rattle.record.specs.Scan.{masked}
+use Rattle.group.specs.Layout.{offsets}
 use Rattle.slots.specs.Owners.{takenBy}
 use Rattle.slots.proofs.own_all.Statement.{statement}
 use Rattle.slots.proofs.own_all.Tie as tie
@@ -12,36 +14,19 @@ abbrev Inv-loop : tie.InvT-loop
 Inv-loop b₀ start mask o₀ b o = Renaming (λ k w. takenBy start (masked mask k) w) b₀ b o
 
 abbrev μ-loop : tie.MeasureT-loop
-μ-loop b₀ start mask o₀ b o = 256 - o
-
-loop-holds : tie.Need-loop-holds Inv-loop μ-loop
-loop-holds c = rename-start _ _ (c .before .before .pre .0)
-
-owner-requires : tie.Need-owner-requires Inv-loop μ-loop
-owner-requires c κs = (c .before .before .loop .inv .room .0, omega arith)
-
-owned-requires : tie.Need-owned-requires Inv-loop μ-loop
-owned-requires c κs = (c .before .owner .ensures .1, c .before .before .before .before .before .before .before .pre .2)
-
-set-owner-requires : tie.Need-set-owner-requires Inv-loop μ-loop
-set-owner-requires c κs =
-    let so = c .before .before .before .before .before .before .loop .inv in
-    let flag = so .flag in
-    (so .room, omega arith, omega arith, c .before .owned .ensures .1)
+μ-loop b₀ start mask o₀ b o = offsets - o
 
 loop-again : tie.Need-loop-again Inv-loop μ-loop
 loop-again c =
     let so = c .before .before .before .before .before .before .before .before .before .loop .inv in
     let was = c .before .before .before .before .before .before .owner .ensures .0 in
     let becomes = c .before .before .before .before .owned .ensures .0 in
-    rename-turn _ _ _ _ so _ _ _ (c .before .before .before .before .before .before .before .before .loop-test .taken) was becomes (c .before .before .set-owner .ensures)
-
-same-length : tie.Need-same-length Inv-loop μ-loop
-same-length c = c .before .loop .inv .room .0 ∙ sym (c .before .before .before .before .pre .0 .0)
+    rename-turn _ _ _ _ so _ _ _ (c .before .before .before .before .before .before .before .before .loop-test .taken) was becomes (c .before .before .set-entry .ensures)
 
 returns : tie.Need-returns Inv-loop μ-loop
 returns c = rename-end _ _ _ _ (c .before .loop .inv) (c .loop-test .left)
 
 pub own-all-spec : {M : Type 1} → statement M
-own-all-spec = tie.close (tie.spec Inv-loop μ-loop loop-holds owner-requires (λ c. omega arith) (λ c. omega arith)
-    owned-requires set-owner-requires (λ c. omega arith) (λ c. omega arith) loop-again same-length returns)
+own-all-spec = tie.close (tie.spec Inv-loop μ-loop (λ c. search needs) (λ c κs. search needs) (λ c. omega arith)
+    (λ c. omega arith) (λ c κs. search needs) (λ c κs. search needs) (λ c. omega arith) (λ c. omega arith) loop-again
+    (λ c. search needs) returns)

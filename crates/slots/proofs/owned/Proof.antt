@@ -10,9 +10,5 @@ returns : tie.Need-returns
 unfolding takenBy either
 returns c = (rw (c .if1 .taken, add-one, either), omega arith)
 
-returns-2 : tie.Need-returns-2
-unfolding takenBy either
-returns-2 c = (rw (c .if1 .left, either), omega arith)
-
 pub owned-spec : {M : Type 1} → statement M
-owned-spec = tie.close (tie.spec (λ c. search needs) returns returns-2)
+owned-spec = tie.close (tie.spec (λ c. search needs) returns (λ c. unfold takenBy either in search needs))

@@ -6,14 +6,6 @@ use borrow.Author.Needs.{needs}
 use Rattle.slots.proofs.remove.Statement.{statement}
 use Rattle.slots.proofs.remove.Tie as tie
 
-close-slot-requires : tie.Need-close-slot-requires
-unfolding groupLength
-close-slot-requires c κs = search needs
-
-put-u16-requires : tie.Need-put-u16-requires
-unfolding groupLength
-put-u16-requires c κs = search needs
-
 returns : tie.Need-returns
 returns c =
     let n = c .before .before .before .before .before .before .before .before .used .ensures in
@@ -21,5 +13,6 @@ returns c =
     remove-shows _ _ _ _ _ (start .pre .0 .0) (n .0) (omega arith) (omega arith) (c .before .before .before .before .before .before .close-slot .ensures) (c .before .before .put-u16 .ensures)
 
 pub remove-spec : {M : Type 1} → statement M
-remove-spec = tie.close (tie.spec (λ c κs. search needs) (λ c. search needs) close-slot-requires (λ c. search needs)
-    put-u16-requires (λ c. search needs) returns)
+remove-spec = tie.close (tie.spec (λ c κs. search needs) (λ c. search needs)
+    (λ c κs. unfold groupLength in search needs) (λ c. search needs) (λ c κs. unfold groupLength in search needs)
+    (λ c. search needs) returns)

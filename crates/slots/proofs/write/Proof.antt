@@ -6,17 +6,9 @@ use borrow.Author.Needs.{needs}
 use Rattle.slots.proofs.write.Statement.{statement}
 use Rattle.slots.proofs.write.Tie as tie
 
-encode-requires : tie.Need-encode-requires
-unfolding groupLength
-encode-requires c κs = (omega arith, c .before .before .before .pre .2 .1)
-
-put-u16-requires : tie.Need-put-u16-requires
-unfolding groupLength
-put-u16-requires c κs = (omega arith, c .before .before .before .before .before .before .before .pre .2 .0)
-
 returns : tie.Need-returns
 returns c = ten-stored _ _ _ _ _ (c .before .before .before .before .before .before .encode .ensures) (c .before .before .put-u16 .ensures)
 
 pub write-spec : {M : Type 1} → statement M
-write-spec = tie.close (tie.spec (λ c. search needs) (λ c. search needs) encode-requires (λ c. search needs)
-    put-u16-requires (λ c. search needs) returns)
+write-spec = tie.close (tie.spec (λ c. search needs) (λ c. search needs) (λ c κs. unfold groupLength in search needs)
+    (λ c. search needs) (λ c κs. unfold groupLength in search needs) (λ c. search needs) returns)

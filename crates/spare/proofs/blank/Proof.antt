@@ -1,4 +1,5 @@
 -- Each turn sets one place, and a store of many is the first set and a store of the rest.
+use borrow.Author.Needs.{needs}
 use native.Mathlib.Omega.{arith}
 use mathlib.Core.Path.{_≡_, refl, sym, _∙_}
 use Prim.Native.Nat.{_-_, _≤_}
@@ -16,9 +17,6 @@ Inv-loop spare₀ a e i₀ spare i = (a ≤ i) × (i ≤ e) × (length spare ≡
 abbrev μ-loop : tie.MeasureT-loop
 μ-loop spare₀ a e i₀ spare i = e - i
 
-loop-holds : tie.Need-loop-holds Inv-loop μ-loop
-loop-holds c = (omega arith, omega arith, refl, refl)
-
 loop-again : tie.Need-loop-again Inv-loop μ-loop
 loop-again c = (omega arith, omega arith, simp length-set (omega arith), c .before .loop .inv .3 ∙ fill-turn _ _ _ _ (c .loop-test .taken))
 
@@ -26,5 +24,5 @@ returns : tie.Need-returns Inv-loop μ-loop
 returns c = sym (c .before .loop .inv .3 ∙ fill-end _ _ _ _ (c .loop-test .left))
 
 pub blank-spec : {M : Type 1} → statement M
-blank-spec = tie.close (tie.spec Inv-loop μ-loop loop-holds (λ c. omega arith) (λ c. omega arith) (λ c. omega arith)
-    (λ c. omega arith) loop-again (λ c. omega arith) returns)
+blank-spec = tie.close (tie.spec Inv-loop μ-loop (λ c. search needs) (λ c. omega arith) (λ c. omega arith)
+    (λ c. omega arith) (λ c. omega arith) loop-again (λ c. omega arith) returns)

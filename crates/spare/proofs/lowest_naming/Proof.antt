@@ -1,4 +1,5 @@
 -- Each turn that doesn't return leaves the search of the entries from the next on, which is the model's recursion.
+use borrow.Author.Needs.{needs}
 use native.Mathlib.Omega.{arith}
 use mathlib.Core.Path.{_≡_, sym, _∙_}
 use Prim.Native.Nat.{_-_, _≤_}
@@ -17,14 +18,8 @@ Inv-loop spare d p x g n j₀ j = (j ≤ n) × (lowestNaming (numbersOf d) spare
 abbrev μ-loop : tie.MeasureT-loop
 μ-loop spare d p x g n j₀ j = n - j
 
-entries-per-page-requires : tie.Need-entries-per-page-requires Inv-loop μ-loop
-entries-per-page-requires c κs = c .before .pre .0
-
 loop-holds : tie.Need-loop-holds Inv-loop μ-loop
 loop-holds c = (omega arith, lowest-start _ _ _ _ _ (c .entries-per-page .ensures))
-
-names-requires : tie.Need-names-requires Inv-loop μ-loop
-names-requires c κs = let s = c .before .before .before .before .pre in (s .0, s .1, s .2, omega (arith, c .before .before .entries-per-page .ensures))
 
 add-q : tie.Need-add-q Inv-loop μ-loop
 add-q c = let s = c .before .before .before .before .before .before .pre in omega (arith, s .2, sizes _ (s .0), c .before .before .before .before .entries-per-page .ensures)
@@ -44,5 +39,5 @@ unfolding namedOf
 returns-2 c = sym (c .before .loop .inv .1 ∙ lowest-end _ _ _ _ _ _ (c .loop-test .left))
 
 pub lowest-naming-spec : {M : Type 1} → statement M
-lowest-naming-spec = tie.close (tie.spec Inv-loop μ-loop entries-per-page-requires loop-holds names-requires add-q sub-q
-    returns (λ c. omega arith) (λ c. omega arith) loop-again returns-2)
+lowest-naming-spec = tie.close (tie.spec Inv-loop μ-loop (λ c κs. search needs) loop-holds (λ c κs. search needs) add-q
+    sub-q returns (λ c. omega arith) (λ c. omega arith) loop-again returns-2)

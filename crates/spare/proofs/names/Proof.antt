@@ -1,4 +1,5 @@
 -- The three tests of the model's `names`, one for each return.
+use borrow.Author.Needs.{needs}
 use native.Mathlib.Omega.{arith}
 use Rattle.model.specs.Device.{pages}
 use Rattle.spare.proofs.Sizes.{sizes}
@@ -20,12 +21,9 @@ returns-2 : tie.Need-returns-2
 unfolding pages
 returns-2 c = names-behind _ _ _ _ _ (c .before .before .if1 .left) (c .if2 .taken)
 
-entry-requires : tie.Need-entry-requires
-entry-requires c κs = c .before .before .before .before .pre
-
 returns-3 : tie.Need-returns-3
 unfolding pages
 returns-3 c = names-inside _ _ _ _ _ _ (c .before .before .before .if1 .left) (c .before .if2 .left) (c .entry .ensures)
 
 pub names-spec : {M : Type 1} → statement M
-names-spec = tie.close (tie.spec add-q returns mul-if2 returns-2 entry-requires returns-3)
+names-spec = tie.close (tie.spec add-q returns mul-if2 returns-2 (λ c κs. search needs) returns-3)

@@ -1,4 +1,5 @@
 -- Each turn sets one entry by the rule, and a store of many is the first set and a store of the rest.
+use borrow.Author.Needs.{needs}
 use native.Mathlib.Omega.{arith}
 use mathlib.Core.Path.{_≡_, refl, sym, _∙_}
 use Prim.Native.Nat.{_+_, _-_, _*_, _≤_, _<_}
@@ -29,9 +30,6 @@ inside c = let s = c .before .before .before .before .pre in omega (arith, s .1,
 small : (c : tie.After-struct-known Inv-loop μ-loop) → length (c .before .before .before .before .args .spare .now) ≤ 32505856
 small c = let s = c .before .before .before .before .pre in omega (arith, s .1, sizes _ (s .0) .area)
 
-entries-per-page-requires : tie.Need-entries-per-page-requires Inv-loop μ-loop
-entries-per-page-requires c κs = c .before .before .pre .0
-
 mul-a : tie.Need-mul-a Inv-loop μ-loop
 mul-a c = omega (arith, place c)
 
@@ -50,9 +48,6 @@ add-at c = omega (arith, inside (c .before .before), small (c .before .before))
 cast-at : tie.Need-cast-at Inv-loop μ-loop
 cast-at c = omega (arith, inside (c .before .before), small (c .before .before))
 
-entry-rule-requires : tie.Need-entry-rule-requires Inv-loop μ-loop
-entry-rule-requires c κs = let s = c .before .before .before .before .before .before .pre in (s .0, omega (arith, s .3), omega (arith, c .before .before .before .entries-per-page .ensures))
-
 mul-spare : tie.Need-mul-spare Inv-loop μ-loop
 mul-spare c = omega (arith, inside (c .before .before .before), small (c .before .before .before))
 
@@ -66,6 +61,6 @@ returns : tie.Need-returns Inv-loop μ-loop
 returns c = sym (c .before .loop .inv .2 ∙ page-end _ _ _ _ _ _ _ (c .loop-test .left))
 
 pub program-page-spec : {M : Type 1} → statement M
-program-page-spec = tie.close (tie.spec Inv-loop μ-loop entries-per-page-requires mul-a add-a mul-a-2 loop-holds add-at
-    cast-at entry-rule-requires mul-spare slice-write-spare (λ c. omega arith) (λ c. omega arith) loop-again
+program-page-spec = tie.close (tie.spec Inv-loop μ-loop (λ c κs. search needs) mul-a add-a mul-a-2 loop-holds add-at
+    cast-at (λ c κs. search needs) mul-spare slice-write-spare (λ c. omega arith) (λ c. omega arith) loop-again
     (λ c. omega arith) returns)

@@ -1,4 +1,5 @@
 -- Each turn programs one page, which is the model's recursion.
+use borrow.Author.Needs.{needs}
 use native.Mathlib.Omega.{arith}
 use mathlib.Core.Path.{_≡_, refl, sym, _∙_}
 use Prim.Native.Nat.{_-_, _≤_}
@@ -22,12 +23,6 @@ abbrev μ-loop : tie.MeasureT-loop
 loop-holds : tie.Need-loop-holds Inv-loop μ-loop
 loop-holds c = (omega arith, refl, pages-start _ _ _ _ _)
 
-cast-program-page : tie.Need-cast-program-page Inv-loop μ-loop
-cast-program-page c = let s = c .before .before .before .before .before .pre in omega (arith, s .3, sizes _ (s .0) .long)
-
-program-page-requires : tie.Need-program-page-requires Inv-loop μ-loop
-program-page-requires c κs = let s = c .before .before .before .before .before .pre in (s .0, c .before .before .loop .inv .1 ∙ s .1, omega (arith, s .2), omega arith)
-
 loop-again : tie.Need-loop-again Inv-loop μ-loop
 loop-again c = (omega arith, omega (arith, c .before .before .program-page .kept .0), c .before .before .before .before .before .loop .inv .2 ∙ pages-turn _ _ _ _ _ _ _ (c .before .before .program-page .ensures) (c .before .before .before .before .loop-test .taken))
 
@@ -35,5 +30,5 @@ returns : tie.Need-returns Inv-loop μ-loop
 returns c = sym (c .before .loop .inv .2 ∙ pages-end _ _ _ _ _ _ (c .loop-test .left))
 
 pub program-pages-spec : {M : Type 1} → statement M
-program-pages-spec = tie.close (tie.spec Inv-loop μ-loop loop-holds cast-program-page program-page-requires
+program-pages-spec = tie.close (tie.spec Inv-loop μ-loop loop-holds (λ c. search needs) (λ c κs. search needs)
     (λ c. omega arith) (λ c. omega arith) loop-again (λ c. omega arith) returns)

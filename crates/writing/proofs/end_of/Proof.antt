@@ -1,6 +1,6 @@
 -- The end of the runs from the one that is looked at on is the end sought.
 use native.Mathlib.Omega.{arith}
-use mathlib.Core.Path.{_≡_, refl, sym, _∙_}
+use mathlib.Core.Path.{_≡_, sym, _∙_}
 use Prim.Native.Nat.{_+_, _-_, _≤_, _<_}
 use lib.ListN.{length, getD}
 use Rattle.writing.specs.Handed.{firstPlace, endFrom, runsEnd}

@@ -8,9 +8,6 @@ use Rattle.writing.proofs.Rooms.{room-plain, room-compact}
 use Rattle.writing.proofs.make_room.Statement.{statement}
 use Rattle.writing.proofs.make_room.Tie as tie
 
-abbrev start : tie.After-slice-known2 → tie.Start
-start c = c .before .before .before .before .before .before .before .before
-
 record-count-requires : tie.Need-record-count-requires
 record-count-requires c κs = let b = c .before .before .pre .0 in (b .size, sound-encodes (b .N) (b .number) _ (b .sound))
 
@@ -19,7 +16,7 @@ compact-requires c κs = let b = c .before .before .before .before .before .pre 
 
 returns : tie.Need-returns
 returns c =
-    let b = start c .pre .0 in
+    let b = c .before .before .before .before .before .before .before .before .pre .0 in
     let counted = c .before .before .before .before .before .record-count .ensures in
     c .before .before .compact .ensures .2 (b .N) (b .number) (b .sound) ∙ sym (room-compact _ _ (omega (arith, counted, c .before .before .before .before .if1 .taken)))
 

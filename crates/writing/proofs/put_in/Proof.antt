@@ -20,14 +20,8 @@ use Rattle.writing.proofs.Rooms.{room-fits, room-sound}
 use Rattle.writing.proofs.put_in.Statement.{statement}
 use Rattle.writing.proofs.put_in.Tie as tie
 
-abbrev after-make-room : tie.After-mask3 → tie.After-make-room
-after-make-room c = c .before .before .before .before .before .before .before .before
-
-abbrev start′ : tie.After-shared-slice-known3 → tie.Start
-start′ c = c .before .before .before .before .before .before .before .before .before
-
 abbrev start : tie.After-shared-slice-known3 → tie.Start
-start c = start′ c
+start c = c .before .before .before .before .before .before .before .before .before
 
 -- the run's pages are in the batch
 inside : (c : tie.Start) → c .args .p .page + getD (c .args .taken .now) (c .args .p .run) 0 ≤ length (c .args .written .now)
@@ -38,7 +32,7 @@ mark-requires c κs = (refl, λ o h. ap (λ (x : ℕ). not (eqb x 0)) (getD-repl
 
 -- the group has room, and is sound
 abbrev room : (c : tie.After-mask3) → tie.After-make-room
-room c = after-make-room c
+room c = c .before .before .before .before .before .before .before .before
 
 abbrev at : (c : tie.After-mask3) → tie.Start
 at c = start (c .before .before .before .before .before)

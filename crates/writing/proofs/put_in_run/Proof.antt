@@ -1,7 +1,7 @@
 -- The run's group is that of its first page, and its part of the state is lent; its runs end where `end_of` says, and the next run's
 -- pages come behind.
 use native.Mathlib.Omega.{arith}
-use mathlib.Core.Path.{_≡_, refl, sym, ap, _∙_, subst}
+use mathlib.Core.Path.{_≡_, sym, ap, _∙_, subst}
 use mathlib.Core.List.{List}
 use mathlib.Core.Bool.{true}
 use Prim.Native.Nat.{ℕ, _+_, _/_, _≤_, _<_}
@@ -87,7 +87,7 @@ returns c =
     let from = at then in
     let end = then .before .before .end-of .ensures in
     let s = readState (from .args .state .now) in (
-      refl,
+      omega arith,
       record {
         page = place-next _ _ _ (from .pre .located .page);
         end = λ l. end ∙ end-stays _ _ _ _ (from .pre .inside) (omega (arith, l, end));

@@ -15,9 +15,6 @@ Inv-loop written i b k f₀ a₀ f a = (a ≤ 257) × (1 ≤ f .size) × (f .siz
 abbrev μ-loop : tie.MeasureT-loop
 μ-loop written i b k f₀ a₀ f a = 257 - a
 
-loop-holds : tie.Need-loop-holds Inv-loop μ-loop
-loop-holds c = (omega arith, c .before .before .pre .2, c .before .before .pre .3, refl)
-
 returns : tie.Need-returns Inv-loop μ-loop
 returns c =
     let s = c .before .before .before .before .before .before .before .pre .1 in
@@ -40,5 +37,6 @@ returns-2 : tie.Need-returns-2 Inv-loop μ-loop
 returns-2 c = sym (from-start _ _ _ _ ∙ c .before .loop .inv .3 ∙ from-end _ _ _ _ _ (omega arith))
 
 pub best-spec : {M : Type 1} → statement M
-best-spec = tie.close (tie.spec Inv-loop μ-loop (λ c. omega arith) (λ c. omega arith) loop-holds (λ c. omega arith)
-    (λ c κs. search needs) returns better-requires (λ c. omega arith) (λ c. omega arith) loop-again returns-2)
+best-spec = tie.close (tie.spec Inv-loop μ-loop (λ c. omega arith) (λ c. omega arith) (λ c. search needs)
+    (λ c. omega arith) (λ c κs. search needs) returns better-requires (λ c. omega arith) (λ c. omega arith) loop-again
+    returns-2)

@@ -14,9 +14,6 @@ on c = omega (arith, c .pre .0, c .pre .1 .end)
 returns : tie.Need-returns
 returns c = subst (IsRun _) (takes-exact _ _ _ (c .if1 .taken)) (c .before .before .accurate .ensures .0)
 
-best-requires : tie.Need-best-requires
-best-requires c κs = let t = c .before .before .accurate .ensures .1 in (c .before .before .before .before .pre .0, c .before .before .before .before .pre .1, t .0, t .1)
-
 returns-2 : tie.Need-returns-2
 returns-2 c = subst (IsRun _) (stays-accurate _ _ _ (c .before .before .before .before .before .before .before .pre .1 .ascends) (c .before .before .before .before .before .before .before .pre .0) (on (c .before .before .before .before .before .before .before)) (c .before .before .before .if1 .left) _ _ (c .before .before .before .before .before .accurate .ensures .0 .1) (c .before .before .best .ensures) (c .if2 .taken)) (c .before .before .before .before .before .accurate .ensures .0)
 
@@ -33,4 +30,5 @@ returns-3 c =
     (c .approximate .ensures .0 ∙ u .0, c .approximate .ensures .1 ∙ u .1)
 
 pub next-spec : {M : Type 1} → statement M
-next-spec = tie.close (tie.spec (λ c κs. search needs) returns best-requires returns-2 approximate-requires returns-3)
+next-spec = tie.close (tie.spec (λ c κs. search needs) returns (λ c κs. search needs) returns-2 approximate-requires
+    returns-3)

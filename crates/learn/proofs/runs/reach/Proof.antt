@@ -20,23 +20,11 @@ abbrev μ-loop : tie.MeasureT-loop
 goes : (c : tie.Then1 Inv-loop μ-loop) → Goes (c .before .before .before .before .before .before .before .before .args .written .now) (getD (c .before .before .before .before .before .before .before .before .args .written .now) (c .before .before .before .before .before .before .before .before .args .i) 0 / 256) (c .before .before .loop .j)
 goes c = ahead-some _ _ _ (sym (c .before .ended .ensures) ∙ not-true _ (c .if1 .taken))
 
-suiting-requires : tie.Need-suiting-requires Inv-loop μ-loop
-suiting-requires c κs = let s = c .before .before .before .before .pre .1 in (s .bound, omega (arith, s .pages), omega (arith, s .end, s .pages), omega arith, c .before .before .before .before .pre .2, omega arith)
-
 loop-holds : tie.Need-loop-holds Inv-loop μ-loop
 loop-holds c = (omega arith, omega arith, reach-starts _ _ _ _ _ refl _ (c .suiting .ensures))
 
-mul-suiting-2 : tie.Need-mul-suiting-2 Inv-loop μ-loop
-mul-suiting-2 c = omega (arith, goes c .inside)
-
 shared-slice-read-suiting-2 : tie.Need-shared-slice-read-suiting-2 Inv-loop μ-loop
 shared-slice-read-suiting-2 c = goes (c .before) .inside
-
-add-suiting-2 : tie.Need-add-suiting-2 Inv-loop μ-loop
-add-suiting-2 c = omega (arith, goes (c .before .before) .inside, c .before .before .before .before .before .before .before .before .before .before .pre .1 .pages)
-
-suiting-requires-2 : tie.Need-suiting-requires-2 Inv-loop μ-loop
-suiting-requires-2 c κs = let s = c .before .before .before .before .before .before .before .before .before .before .pre .1 in (s .bound, omega (arith, s .pages), omega (arith, s .end, s .pages), omega (arith, goes (c .before .before) .inside, s .pages), c .before .before .before .before .before .before .before .before .before .before .pre .2, omega arith)
 
 returns : tie.Need-returns Inv-loop μ-loop
 returns c =
@@ -61,7 +49,7 @@ returns-2 c =
 
 pub reach-spec : {M : Type 1} → statement M
 reach-spec = tie.close (tie.spec Inv-loop μ-loop (λ c. omega arith) (λ c. omega arith) (λ c. omega arith)
-    (λ c. omega arith) (λ c. omega arith) (λ c. omega arith) suiting-requires (λ c. omega arith) loop-holds
-    (λ c κs. search needs) mul-suiting-2 shared-slice-read-suiting-2 (λ c. omega arith) add-suiting-2 suiting-requires-2
-    (λ c κs. search needs) (λ c. omega arith) returns (λ c. omega arith) loop-less loop-again (λ c. omega arith)
-    returns-2)
+    (λ c. omega arith) (λ c. omega arith) (λ c. omega arith) (λ c κs. search needs) (λ c. omega arith) loop-holds
+    (λ c κs. search needs) (λ c. search needs) shared-slice-read-suiting-2 (λ c. omega arith) (λ c. search needs)
+    (λ c κs. search needs) (λ c κs. search needs) (λ c. omega arith) returns (λ c. omega arith) loop-less loop-again
+    (λ c. omega arith) returns-2)

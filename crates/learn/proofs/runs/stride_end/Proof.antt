@@ -21,12 +21,6 @@ abbrev μ-loop : tie.MeasureT-loop
 goes : (c : tie.Then1 Inv-loop μ-loop) → Goes (c .before .before .before .before .before .args .written .now) (getD (c .before .before .before .before .before .args .written .now) (c .before .before .before .before .before .args .i) 0 / 256) (c .before .before .loop .j + 1)
 goes c = ahead-some _ _ _ (sym (c .before .ended .ensures) ∙ not-true _ (c .if1 .taken))
 
-loop-holds : tie.Need-loop-holds Inv-loop μ-loop
-loop-holds c = (omega arith, c .before .before .pre .0, refl, omega arith)
-
-mul-if2 : tie.Need-mul-if2 Inv-loop μ-loop
-mul-if2 c = omega (arith, goes c .inside)
-
 shared-slice-read-if2 : tie.Need-shared-slice-read-if2 Inv-loop μ-loop
 shared-slice-read-if2 c = goes (c .before) .inside
 
@@ -58,6 +52,6 @@ returns-2 c =
     (omega (arith, v .0, v .3, e), v .1)
 
 pub stride-end-spec : {M : Type 1} → statement M
-stride-end-spec = tie.close (tie.spec Inv-loop μ-loop (λ c. omega arith) (λ c. omega arith) loop-holds
-    (λ c. omega arith) (λ c κs. search needs) (λ c. omega arith) mul-if2 shared-slice-read-if2 (λ c. omega arith)
-    (λ c. omega arith) sub-if2 returns (λ c. omega arith) (λ c. omega arith) loop-again returns-2)
+stride-end-spec = tie.close (tie.spec Inv-loop μ-loop (λ c. omega arith) (λ c. omega arith) (λ c. search needs)
+    (λ c. omega arith) (λ c κs. search needs) (λ c. omega arith) (λ c. search needs) shared-slice-read-if2
+    (λ c. omega arith) (λ c. omega arith) sub-if2 returns (λ c. omega arith) (λ c. omega arith) loop-again returns-2)

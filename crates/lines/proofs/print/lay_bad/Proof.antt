@@ -4,9 +4,6 @@ use borrow.Author.Needs.{needs}
 use Rattle.lines.proofs.print.lay_bad.Statement.{statement}
 use Rattle.lines.proofs.print.lay_bad.Tie as tie
 
-returns : tie.Need-returns
-unfolding ascii badLine
-returns c = c .before .before .put-text .ensures
-
 pub lay-bad-spec : {M : Type 1} → statement M
-lay-bad-spec = tie.close (tie.spec (λ c. search needs) (λ c κs. search needs) (λ c. search needs) returns)
+lay-bad-spec = tie.close (tie.spec (λ c. search needs) (λ c κs. search needs) (λ c. search needs)
+    (λ c. unfold ascii badLine in search needs))

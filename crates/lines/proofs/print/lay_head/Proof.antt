@@ -4,9 +4,6 @@ use borrow.Author.Needs.{needs}
 use Rattle.lines.proofs.print.lay_head.Statement.{statement}
 use Rattle.lines.proofs.print.lay_head.Tie as tie
 
-returns : tie.Need-returns
-unfolding ascii headLine
-returns c = c .before .before .put-text .ensures
-
 pub lay-head-spec : {M : Type 1} → statement M
-lay-head-spec = tie.close (tie.spec (λ c. search needs) (λ c κs. search needs) (λ c. search needs) returns)
+lay-head-spec = tie.close (tie.spec (λ c. search needs) (λ c κs. search needs) (λ c. search needs)
+    (λ c. unfold ascii headLine in search needs))

@@ -1,4 +1,5 @@
 -- The blanks that are left make the whole store.
+use borrow.Author.Needs.{needs}
 use Prim.Native.Nat.{ℕ, _+_, _-_}
 use native.Mathlib.Omega.{arith}
 use mathlib.Core.Path.{_≡_, refl, ap, _∙_}
@@ -14,9 +15,6 @@ Inv-loop out₀ at width used i₀ k₀ out i k = (i + (width - k) ≡ at + (wid
 abbrev μ-loop : tie.MeasureT-loop
 μ-loop out₀ at width used i₀ k₀ out i k = width - k
 
-loop-holds : tie.Need-loop-holds Inv-loop μ-loop
-loop-holds c = (refl, refl, refl)
-
 loop-again : tie.Need-loop-again Inv-loop μ-loop
 loop-again c = (omega arith, simp length-set (omega arith), blank-turn _ _ _ _ (c .loop-test .taken) ∙ c .before .loop .inv .2)
 
@@ -27,5 +25,5 @@ returns c =
     laid-all _ _ (ap (λ (n : ℕ). replicate n 32) none) (c .before .loop .inv .2) (omega (arith, length-replicate {A = ℕ} (start .width - start .used) 32)) (omega arith)
 
 pub put-blanks-spec : {M : Type 1} → statement M
-put-blanks-spec = tie.close (tie.spec Inv-loop μ-loop loop-holds (λ c. omega arith) (λ c. omega arith)
+put-blanks-spec = tie.close (tie.spec Inv-loop μ-loop (λ c. search needs) (λ c. omega arith) (λ c. omega arith)
     (λ c. omega arith) (λ c. omega arith) loop-again (λ c. omega arith) returns)

@@ -16,9 +16,6 @@ Inv-loop r mask o₀ o = (o ≤ 256) × (everyFrom (marked mask r) 256 0 ≡ eve
 abbrev μ-loop : tie.MeasureT-loop
 μ-loop r mask o₀ o = 256 - o
 
-loop-holds : tie.Need-loop-holds Inv-loop μ-loop
-loop-holds c = (omega arith, refl)
-
 returns : tie.Need-returns Inv-loop μ-loop
 returns c = sym (c .before .before .before .loop .inv .1 ∙ every-fails _ 256 _ (c .before .before .loop-test .taken) _ (c .before .marked .ensures) (not-true _ (c .if1 .taken)))
 
@@ -29,5 +26,5 @@ returns-2 : tie.Need-returns-2 Inv-loop μ-loop
 returns-2 c = sym (c .before .loop .inv .1 ∙ every-done _ 256 _ (c .loop-test .left))
 
 pub all-marked-spec : {M : Type 1} → statement M
-all-marked-spec = tie.close (tie.spec Inv-loop μ-loop loop-holds (λ c κs. search needs) returns (λ c. search needs)
-    (λ c. omega arith) loop-again returns-2)
+all-marked-spec = tie.close (tie.spec Inv-loop μ-loop (λ c. search needs) (λ c κs. search needs) returns
+    (λ c. search needs) (λ c. omega arith) loop-again returns-2)

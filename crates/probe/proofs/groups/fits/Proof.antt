@@ -13,9 +13,6 @@ use Rattle.probe.proofs.groups.fits.Tie as tie
 shape : (c : tie.Else1) → shaped 256 0 (c .before .before .before .args .r) ≡ true
 shape c = sym (c .before .shaped .ensures) ∙ not-false _ (c .if1 .left)
 
-shaped-requires : tie.Need-shaped-requires
-shaped-requires c κs = (c .before .pre .1, omega arith)
-
 returns : tie.Need-returns
 returns c = not-shaped _ _ (sym (c .before .shaped .ensures) ∙ not-true _ (c .if1 .taken))
 
@@ -29,4 +26,5 @@ returns-3 : tie.Need-returns-3
 returns-3 c = all-tests _ _ (shape (c .before .before .before)) (sym (c .before .before .ends-marked .ensures) ∙ not-false _ (c .before .if2 .left)) _ (c .all-marked .ensures)
 
 pub fits-spec : {M : Type 1} → statement M
-fits-spec = tie.close (tie.spec shaped-requires returns ends-marked-requires returns-2 (λ c κs. search needs) returns-3)
+fits-spec = tie.close (tie.spec (λ c κs. search needs) returns ends-marked-requires returns-2 (λ c κs. search needs)
+    returns-3)

@@ -1,4 +1,5 @@
 -- By the length, then by the group.
+use borrow.Author.Needs.{needs}
 use native.Mathlib.Omega.{arith}
 use Rattle.model.specs.Device.{groupLength}
 use Rattle.probe.proofs.Conditions.{other-length, right-length}
@@ -9,13 +10,9 @@ returns : tie.Need-returns
 unfolding groupLength
 returns c = other-length _ (c .if1 .taken)
 
-sound-requires : tie.Need-sound-requires
-unfolding groupLength
-sound-requires c κs = (c .if1 .left, omega arith)
-
 returns-2 : tie.Need-returns-2
 unfolding groupLength
 returns-2 c = right-length _ (c .before .if1 .left) _ (c .sound .ensures)
 
 pub is-sound-spec : {M : Type 1} → statement M
-is-sound-spec = tie.close (tie.spec returns sound-requires returns-2)
+is-sound-spec = tie.close (tie.spec returns (λ c κs. unfold groupLength in search needs) returns-2)

@@ -24,5 +24,5 @@ returns-4 : tie.Need-returns-4
 returns-4 c = by-fitting _ _ _ (room (c .before .before .before .before)) (c .before .before .before .if2 .left) (c .before .before .if3 .left) _ _ (c .before .decode .ensures .0) (c .fits2 .ensures)
 
 pub may-insert-spec : {M : Type 1} → statement M
-may-insert-spec = tie.close (tie.spec (λ c κs. search needs) returns returns-2 returns-3 (λ c κs. search needs)
-    (λ c κs. search needs) returns-4)
+may-insert-spec = tie.close (tie.spec (λ c κs. search needs) returns returns-2 (λ c. search needs) returns-3
+    (λ c κs. search needs) (λ c κs. search needs) returns-4)

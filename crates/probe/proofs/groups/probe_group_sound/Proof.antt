@@ -1,4 +1,5 @@
 -- By the conditions, one after the other, then by the group.
+use borrow.Author.Needs.{needs}
 use mathlib.Core.Path.{sym, _∙_}
 use Rattle.model.specs.Device.{groupLength}
 use Rattle.probe.specs.Groups.{bit}
@@ -14,10 +15,6 @@ returns-2 : tie.Need-returns-2
 unfolding groupLength
 returns-2 c = not-low _ _ _ (c .before .if1 .left) (c .if2 .taken)
 
-sound-requires : tie.Need-sound-requires
-unfolding groupLength
-sound-requires c κs = (c .before .if1 .left, c .if2 .left)
-
 returns-3 : tie.Need-returns-3
 unfolding groupLength bit
 returns-3 c = asked _ _ _ (c .before .before .before .if1 .left) (c .before .before .if2 .left) _ (sym (c .if3 .taken) ∙ c .before .sound .ensures)
@@ -27,4 +24,5 @@ unfolding groupLength bit
 returns-4 c = asked _ _ _ (c .before .before .before .if1 .left) (c .before .before .if2 .left) _ (sym (c .if3 .left) ∙ c .before .sound .ensures)
 
 pub probe-group-sound-spec : {M : Type 1} → statement M
-probe-group-sound-spec = tie.close (tie.spec returns returns-2 sound-requires returns-3 returns-4)
+probe-group-sound-spec = tie.close (tie.spec returns returns-2 (λ c κs. unfold groupLength in search needs) returns-3
+    returns-4)

@@ -4,8 +4,5 @@ use borrow.Author.Needs.{needs}
 use Rattle.record.proofs.Record.end.Statement.{statement}
 use Rattle.record.proofs.Record.end.Tie as tie
 
-returns : tie.Need-returns
-returns c = λ owned. refl
-
 pub end-spec : {M : Type 1} → statement M
-end-spec = tie.close (tie.spec (λ c. search needs) returns)
+end-spec = tie.close (tie.spec (λ c. search needs) (λ c. search needs))
