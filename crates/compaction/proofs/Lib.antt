@@ -1,3 +1,4 @@
+pub mod SlotsCompacted
 pub mod Parts
 pub mod Before
 pub mod PutSlot

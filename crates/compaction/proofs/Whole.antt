@@ -22,11 +22,11 @@ use Rattle.group.specs.Cutting.{Placed, flat}
 use Rattle.group.specs.Held.{slotFor, Held}
 use Rattle.slots.specs.View.{Shows}
 use Rattle.insertion.specs.Slots.{records}
-use Rattle.insertion.specs.CompactSlots.{shrinkSlots}
+use Rattle.compaction.specs.CompactSlots.{shrinkSlots}
 use Rattle.insertion.specs.Shown.{weight, Shown, Tidy}
 use Rattle.insertion.proofs.Weights.{among-total}
 use Rattle.insertion.proofs.Count.{records-flat, length-flat}
-use Rattle.insertion.proofs.Compact.{shrink-flat}
+use Rattle.compaction.proofs.SlotsCompacted.{shrink-flat}
 
 -- sound in its group, sound in some group
 anywhere : (n k : ℕ) (l : List Record) → all (soundRecord n k) l ≡ true → all (soundRecord 256 0) l ≡ true

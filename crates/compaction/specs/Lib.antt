@@ -1,1 +1,2 @@
+pub mod CompactSlots
 pub mod Step

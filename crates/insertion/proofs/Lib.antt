@@ -16,7 +16,6 @@ pub mod Turns
 pub mod GiveUp
 pub mod Inserting
 pub mod Count
-pub mod Compact
 pub mod GivingUp
 pub mod TurnSlot
 pub mod Turning

@@ -1,6 +1,5 @@
 pub mod Flat
 pub mod Slots
 pub mod InsertSlots
-pub mod CompactSlots
 pub mod Shown
 pub mod Ready
