@@ -1,4 +1,5 @@
 -- `move_down` meets its contract: at each turn the bytes that are left to move make the whole move.
+use borrow.Author.Needs.{needs}
 use Prim.Native.Nat.{_+_, _-_, _≤_}
 use native.Mathlib.Omega.{arith}
 use mathlib.Core.Path.{_≡_, refl, sym, _∙_}
@@ -14,9 +15,6 @@ Inv-loop s₀ q n w j₀ s j = (j ≤ n) × (length s ≡ length s₀) × (moved
 abbrev μ-loop : tie.MeasureT-loop
 μ-loop s₀ q n w j₀ s j = n - j
 
-loop-holds : tie.Need-loop-holds Inv-loop μ-loop
-loop-holds c = (omega arith, refl, down-start _ _ _ _)
-
 loop-again : tie.Need-loop-again Inv-loop μ-loop
 loop-again c = (omega arith, simp length-set (omega arith), down-turn _ _ _ _ _ (c .before .loop-test .taken) (omega arith) ∙ c .before .before .loop .inv .2)
 
@@ -26,5 +24,6 @@ returns c =
     sym (moved-none _ _ _) ∙ rw e at (c .before .loop .inv .2)
 
 pub move-down-spec : {M : Type 1} → statement M
-move-down-spec = tie.close (tie.spec Inv-loop μ-loop loop-holds (λ c. omega arith) (λ c. omega arith) (λ c. omega arith)
-    (λ c. omega arith) (λ c. omega arith) (λ c. omega arith) (λ c. omega arith) loop-again (λ c. omega arith) returns)
+move-down-spec = tie.close (tie.spec Inv-loop μ-loop (λ c. search (down-start, needs)) (λ c. omega arith)
+    (λ c. omega arith) (λ c. omega arith) (λ c. omega arith) (λ c. omega arith) (λ c. omega arith) (λ c. omega arith)
+    loop-again (λ c. omega arith) returns)

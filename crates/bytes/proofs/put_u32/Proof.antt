@@ -4,9 +4,6 @@ use borrow.Author.Needs.{needs}
 use Rattle.bytes.proofs.put_u32.Statement.{statement}
 use Rattle.bytes.proofs.put_u32.Tie as tie
 
-returns : tie.Need-returns
-returns c = four-stored _ _ _ _ _ (c .before .before .before .before .before .before .put-u16 .ensures) (c .before .before .put-u162 .ensures)
-
 pub put-u32-spec : {M : Type 1} → statement M
 put-u32-spec = tie.close (tie.spec (λ c κs. search needs) (λ c. search needs) (λ c κs. search needs) (λ c. search needs)
-    returns)
+    (λ c. search (four-stored, needs)))

@@ -4,8 +4,6 @@ use borrow.Author.Needs.{needs}
 use Rattle.bytes.proofs.put_u8.Statement.{statement}
 use Rattle.bytes.proofs.put_u8.Tie as tie
 
-returns : tie.Need-returns
-returns c = store-one _ _ _
-
 pub put-u8-spec : {M : Type 1} → statement M
-put-u8-spec = tie.close (tie.spec (λ c. search needs) (λ c. search needs) (λ c. search needs) returns)
+put-u8-spec = tie.close (tie.spec (λ c. search needs) (λ c. search needs) (λ c. search needs)
+    (λ c. search (store-one, needs)))

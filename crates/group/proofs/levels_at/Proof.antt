@@ -5,11 +5,6 @@ use borrow.Author.Needs.{needs}
 use Rattle.group.proofs.levels_at.Statement.{statement}
 use Rattle.group.proofs.levels_at.Tie as tie
 
-returns : tie.Need-returns
-returns c = sym (levels-none _ _ (c .if1 .taken))
-
-returns-2 : tie.Need-returns-2
-returns-2 c = levels-some _ _ _ (c .before .if1 .left) (c .level .ensures .0)
-
 pub levels-at-spec : {M : Type 1} → statement M
-levels-at-spec = tie.close (tie.spec returns (λ c. search needs) (λ c κs. search needs) (λ c. search needs) returns-2)
+levels-at-spec = tie.close (tie.spec (λ c. search (levels-none, needs)) (λ c. search needs) (λ c κs. search needs)
+    (λ c. search needs) (λ c. search (levels-some, needs)))

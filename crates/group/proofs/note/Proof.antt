@@ -4,12 +4,6 @@ use borrow.Author.Needs.{needs}
 use Rattle.group.proofs.note.Statement.{statement}
 use Rattle.group.proofs.note.Tie as tie
 
-returns : tie.Need-returns
-returns c = note-other _ _ (c .if1 .taken)
-
-returns-2 : tie.Need-returns-2
-returns-2 c = note-approx _ _ (c .before .before .if1 .left)
-
 pub note-spec : {M : Type 1} → statement M
-note-spec = tie.close (tie.spec returns (λ c. search needs) (λ c. search needs) (λ c. search needs) (λ c. search needs)
-    (λ c. search needs) (λ c. search needs) returns-2)
+note-spec = tie.close (tie.spec (λ c. search (note-other, needs)) (λ c. search needs) (λ c. search needs)
+    (λ c. search needs) (λ c. search needs) (λ c. search needs) (λ c. search needs) (λ c. search (note-approx, needs)))

@@ -1,4 +1,5 @@
 -- `record_at` meets its contract: the slots that the group takes are those that it is read from.
+use borrow.Author.Needs.{needs}
 use mathlib.Core.Path.{sym, _∙_}
 use Prim.Native.Nat.{_<_}
 use native.Mathlib.Omega.{arith}
@@ -13,8 +14,5 @@ inside c = omega (arith, count-read _ (c .before .pre .1), c .before .pre .2)
 slot-at-requires : tie.Need-slot-at-requires
 slot-at-requires c κs = (c .before .pre .0, omega (arith, inside c, few-used _ (c .before .pre .1)))
 
-returns : tie.Need-returns
-returns c = c .slot-at .ensures .0 ∙ sym (slot-read _ (c .before .before .pre .1) _ (inside (c .before)))
-
 pub record-at-spec : {M : Type 1} → statement M
-record-at-spec = tie.close (tie.spec slot-at-requires returns)
+record-at-spec = tie.close (tie.spec slot-at-requires (λ c. search (slot-read, inside, needs)))

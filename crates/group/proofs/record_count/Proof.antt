@@ -5,8 +5,5 @@ use Rattle.group.proofs.Slots.{count-read}
 use Rattle.group.proofs.record_count.Statement.{statement}
 use Rattle.group.proofs.record_count.Tie as tie
 
-returns : tie.Need-returns
-returns c = c .used .ensures .0 ∙ sym (count-read _ (c .before .before .pre .1))
-
 pub record-count-spec : {M : Type 1} → statement M
-record-count-spec = tie.close (tie.spec (λ c κs. search needs) returns)
+record-count-spec = tie.close (tie.spec (λ c κs. search needs) (λ c. search (count-read, needs)))

@@ -10,9 +10,6 @@ use Rattle.group.proofs.sound.Tie as tie
 returns : tie.Need-returns
 returns c = read-many _ _ _ (omega arith)
 
-returns-2 : tie.Need-returns-2
-returns-2 c = read-unfit _ _ _ _ (c .before .before .slots-pass .ensures .0) (not-true _ (c .if2 .taken))
-
 returns-3 : tie.Need-returns-3
 returns-3 c =
     let e = not-false _ (c .before .before .if2 .left) in
@@ -20,5 +17,5 @@ returns-3 c =
     read-owners _ _ _ _ (slots .0) e (omega arith) _ (slots .1 e) _ (c .owners-pass .ensures)
 
 pub sound-spec : {M : Type 1} → statement M
-sound-spec = tie.close (tie.spec (λ c κs. search needs) returns (λ c. search needs) (λ c κs. search needs) returns-2
-    (λ c. search needs) (λ c κs. search needs) returns-3)
+sound-spec = tie.close (tie.spec (λ c κs. search needs) returns (λ c. search needs) (λ c κs. search needs)
+    (λ c. search (read-unfit, not-true, needs)) (λ c. search needs) (λ c κs. search needs) returns-3)

@@ -10,9 +10,6 @@ use borrow.Author.Needs.{needs}
 use Rattle.insertion.proofs.give_up.Statement.{statement}
 use Rattle.insertion.proofs.give_up.Tie as tie
 
-get-requires : tie.Need-get-requires
-get-requires c κs = (shown-room _ _ (c .before .before .before .pre .0 .shown), c .before .before .before .pre .1)
-
 add-result : tie.Need-add-result
 add-result c = record { fits = omega (arith, c .before .before .before .before .before .before .before .pre .1, shown-room _ _ (c .before .before .before .before .before .before .before .pre .0 .shown) .1) }
 
@@ -32,6 +29,6 @@ returns-3 : tie.Need-returns-3
 returns-3 c = give-gone _ _ (masked (c .before .before .before .before .before .before .before .before .before .before .before .before .before .args .taken .now)) (λ l shown. kind-held _ _ _ (c .before .before .before .before .before .before .before .before .before .before .before .before .before .pre .1) (c .before .before .before .before .before .before .before .before .before .get .ensures .0) _ (c .before .before .before .before .before .before .before .is-approximate .ensures) l shown ∙ not-false _ (c .before .before .before .before .before .before .if1 .left)) _ _ (c .before .before .before .before .shrink-owner .ensures) (c .enum-told2 .given .1)
 
 pub give-up-spec : {M : Type 1} → statement M
-give-up-spec = tie.close (tie.spec get-requires (λ c κs. search needs) add-result (λ c. search needs) returns
-    shrink-owner-requires (λ c. search needs) add-result-2 (λ c. search needs) returns-2 (λ c. search needs)
-    (λ c. search needs) returns-3)
+give-up-spec = tie.close (tie.spec (λ c κs. search (shown-room, needs)) (λ c κs. search needs) add-result
+    (λ c. search needs) returns shrink-owner-requires (λ c. search needs) add-result-2 (λ c. search needs) returns-2
+    (λ c. search needs) (λ c. search needs) returns-3)

@@ -16,9 +16,6 @@ Inv-loop b₀ taken k₀ i₀ b k i = (l : List Placed) → Shown b₀ l → Giv
 abbrev μ-loop : tie.MeasureT-loop
 μ-loop b₀ taken k₀ i₀ b k i = k
 
-loop-holds : tie.Need-loop-holds Inv-loop μ-loop
-loop-holds c = λ l shown. giving-start _ l _ _ shown (c .used .ensures .1)
-
 give-up-requires : tie.Need-give-up-requires Inv-loop μ-loop
 give-up-requires c κs = let g = c .before .before .loop .inv (c .before .before .before .before .before .before .before .pre .0 .list) (c .before .before .before .before .before .before .before .pre .0 .shown) in (record { list = _; shown = g .shown }, giving-inside _ _ _ _ _ (c .before .loop-test .taken) g, c .before .before .before .before .before .before .before .pre .1)
 
@@ -32,5 +29,5 @@ returns : tie.Need-returns Inv-loop μ-loop
 returns c = λ l shown. giving-end _ l _ _ _ (c .loop-test .left) (c .before .loop .inv l shown)
 
 pub give-up-all-spec : {M : Type 1} → statement M
-give-up-all-spec = tie.close (tie.spec Inv-loop μ-loop (λ c κs. search needs) loop-holds give-up-requires
-    (λ c. search needs) (λ c. search needs) loop-again same-length returns)
+give-up-all-spec = tie.close (tie.spec Inv-loop μ-loop (λ c κs. search needs) (λ c. search (giving-start, needs))
+    give-up-requires (λ c. search needs) (λ c. search needs) loop-again same-length returns)

@@ -15,17 +15,9 @@ use borrow.Author.Needs.{needs}
 use Rattle.insertion.proofs.lower.Statement.{statement}
 use Rattle.insertion.proofs.lower.Tie as tie
 
-get-requires : tie.Need-get-requires
-get-requires c κs = (shown-room _ _ (c .before .before .pre .0 .shown), c .before .before .pre .1)
-
-remove-requires : tie.Need-remove-requires
-remove-requires c κs = (shown-room _ _ (c .before .before .before .before .before .pre .0 .shown), c .before .before .before .before .before .pre .1)
-
 sink-in-requires : tie.Need-sink-in-requires
 sink-in-requires c κs = (c .before .before .before .remove .ensures .0, omega (arith, shown-room _ _ (c .before .before .before .before .before .before .before .before .before .pre .0 .shown) .1, c .before .before .before .before .before .before .before .before .before .pre .1, removeAt-length (c .before .before .before .before .before .before .before .before .before .args .i) (slotsOf (c .before .before .before .before .before .before .before .before .before .args .b .now)) (c .before .before .before .before .before .before .before .before .before .pre .1), ap (λ (k : List Slot). length k) (c .before .before .before .remove .ensures .1)), c .before .before .before .before .before .before .get .ensures .1 .1, ap (all canGoDown) (c .before .before .before .remove .ensures .1) ∙ all-remove canGoDown (c .before .before .before .before .before .before .before .before .before .args .i) (slotsOf (c .before .before .before .before .before .before .before .before .before .args .b .now)) (c .before .before .before .before .before .before .before .before .before .pre .2))
 
-returns : tie.Need-returns
-returns c = lower-shown _ _ _ _ _ (c .before .before .before .before .before .before .before .before .before .before .before .before .pre .1) (c .before .before .before .before .before .before .before .before .before .get .ensures .0) (c .before .before .before .before .before .before .remove .ensures) (c .before .before .sink-in .ensures)
-
 pub lower-spec : {M : Type 1} → statement M
-lower-spec = tie.close (tie.spec get-requires remove-requires sink-in-requires (λ c. search needs) returns)
+lower-spec = tie.close (tie.spec (λ c κs. search (shown-room, needs)) (λ c κs. search (shown-room, needs))
+    sink-in-requires (λ c. search needs) (λ c. search (lower-shown, needs)))

@@ -5,24 +5,14 @@ use borrow.Author.Needs.{needs}
 use Rattle.insertion.proofs.shrink_other.Statement.{statement}
 use Rattle.insertion.proofs.shrink_other.Tie as tie
 
-get-requires : tie.Need-get-requires
-get-requires c κs = (shown-room _ _ (c .before .before .before .pre .0 .shown), c .before .before .before .pre .1)
-
-shrink-accurate-requires : tie.Need-shrink-accurate-requires
-shrink-accurate-requires c κs = (c .before .before .before .before .before .pre .2, held-short _ _ _ (c .before .before .before .before .before .pre .1) (c .before .get .ensures .0) (c .before .before .before .before .before .pre .0), kind-slot _ _ _ (c .before .before .before .before .before .pre .1) (c .before .get .ensures .0) _ (c .before .before .before .before .before .pre .0) (c .before .before .before .before .before .pre .3))
-
-put-requires : tie.Need-put-requires
-put-requires c κs = (shown-room _ _ (c .before .before .before .before .before .before .before .before .before .before .pre .0 .shown), c .before .before .before .before .before .before .before .before .before .before .pre .1, (c .before .before .before .before .before .before .get .ensures .1 .0, other-eight _ _ _ (c .before .before .before .before .before .before .before .before .before .before .pre .1) (c .before .before .before .before .before .before .get .ensures .0) (c .before .before .before .before .before .before .before .before .before .before .args .taken .now) _ (c .before .before .before .before .before .before .before .before .before .before .pre .3) (c .before .before .before .before .shrink-accurate .ensures) (c .before .before .before .before .before .before .before .before .before .before .pre .0) _ (c .before .before .u .given .1)))
-
 returns : tie.Need-returns
 returns c = other-kept _ _ _ (c .before .before .before .before .before .before .before .before .before .before .before .before .before .pre .1) (c .before .before .before .before .before .before .before .before .before .get .ensures .0) (c .before .before .before .before .before .before .before .before .before .before .before .before .before .args .taken .now) _ (c .before .before .before .before .before .before .before .before .before .before .before .before .before .pre .3) (c .before .before .before .before .before .before .before .shrink-accurate .ensures) _ (c .before .before .before .before .before .u .given .1) _ (c .before .before .put .ensures)
-
-remove-requires : tie.Need-remove-requires
-remove-requires c κs = (shown-room _ _ (c .before .before .before .before .before .before .before .before .before .pre .0 .shown), c .before .before .before .before .before .before .before .before .before .pre .1)
 
 returns-2 : tie.Need-returns-2
 returns-2 c = other-gone _ _ _ (c .before .before .before .before .before .before .before .before .before .before .before .before .pre .1) (c .before .before .before .before .before .before .before .before .get .ensures .0) (c .before .before .before .before .before .before .before .before .before .before .before .before .args .taken .now) _ (c .before .before .before .before .before .before .before .before .before .before .before .before .pre .3) (c .before .before .before .before .before .before .shrink-accurate .ensures) (c .before .before .before .before .enum-told .given .1) _ (c .before .before .remove .ensures)
 
 pub shrink-other-spec : {M : Type 1} → statement M
-shrink-other-spec = tie.close (tie.spec get-requires shrink-accurate-requires (λ c. search needs) put-requires
-    (λ c. search needs) returns (λ c. search needs) remove-requires (λ c. search needs) returns-2)
+shrink-other-spec = tie.close (tie.spec (λ c κs. search (shown-room, needs))
+    (λ c κs. search (held-short, kind-slot, needs)) (λ c. search needs)
+    (λ c κs. search (shown-room, other-eight, needs)) (λ c. search needs) returns (λ c. search needs)
+    (λ c κs. search (shown-room, needs)) (λ c. search needs) returns-2)

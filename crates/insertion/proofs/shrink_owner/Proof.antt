@@ -11,12 +11,6 @@ use borrow.Author.Needs.{needs}
 use Rattle.insertion.proofs.shrink_owner.Statement.{statement}
 use Rattle.insertion.proofs.shrink_owner.Tie as tie
 
-get-requires : tie.Need-get-requires
-get-requires c κs = (shown-room _ _ (c .before .before .before .pre .0 .shown), c .before .before .before .pre .1)
-
-shrink-approximate-requires : tie.Need-shrink-approximate-requires
-shrink-approximate-requires c κs = (c .before .before .left-to .ensures .0, kind-slot _ _ _ (c .before .before .before .before .before .before .before .before .before .before .pre .1) (c .before .before .before .before .before .before .get .ensures .0) _ (c .before .before .before .before .before .before .before .before .before .before .pre .0) (c .before .before .before .before .before .before .before .before .before .before .pre .3))
-
 hand-over-requires : tie.Need-hand-over-requires
 hand-over-requires c κs = (shown-room _ _ (c .before .before .before .before .before .before .before .before .before .before .before .before .before .before .before .before .pre .0 .shown), c .before .before .before .before .before .before .before .before .before .before .before .before .get .ensures .1 .1 .0, c .before .before .before .before .before .before .before .before .left-to .ensures .0, owner-eight _ _ _ (c .before .before .before .before .before .before .before .before .before .before .before .before .before .before .before .before .pre .1) (c .before .before .before .before .before .before .before .before .before .before .before .before .get .ensures .0) (c .before .before .before .before .before .before .before .before .before .before .before .before .before .before .before .before .args .taken .now) _ (c .before .before .before .before .before .before .before .before .before .before .before .before .before .before .before .before .pre .3) (c .before .before .before .before .before .before .before .before .left-to .last .1 .1 .1 .0) (c .before .before .before .before .before .before .before .before .left-to .ensures .1) (c .before .before .before .before .before .shrink-approximate .ensures) (c .before .before .before .before .before .before .before .before .before .before .before .before .before .before .before .before .pre .0) _ (c .before .before .before .u .given .1) .0)
 
@@ -26,9 +20,6 @@ put-requires c κs = (reading.shown-room _ (c .before .before .before .hand-over
 returns : tie.Need-returns
 returns c = owner-kept _ _ _ (c .before .before .before .before .before .before .before .before .before .before .before .before .before .before .before .before .before .before .before .before .before .before .before .pre .1) (c .before .before .before .before .before .before .before .before .before .before .before .before .before .before .before .before .before .before .before .get .ensures .0) (c .before .before .before .before .before .before .before .before .before .before .before .before .before .before .before .before .before .before .before .before .before .before .before .args .taken .now) _ (c .before .before .before .before .before .before .before .before .before .before .before .before .before .before .before .before .before .before .before .before .before .before .before .pre .3) (c .before .before .before .before .before .before .before .before .before .before .before .before .before .before .before .left-to .last .1 .1 .1 .0) (c .before .before .before .before .before .before .before .before .before .before .before .before .before .before .before .left-to .ensures .1) (c .before .before .before .before .before .before .before .before .before .before .before .before .shrink-approximate .ensures) _ (c .before .before .before .before .before .before .before .before .before .before .u .given .1) _ _ (c .before .before .before .before .before .before .hand-over .ensures) (c .before .before .put .ensures)
 
-disown-requires : tie.Need-disown-requires
-disown-requires c κs = (shown-room _ _ (c .before .before .before .before .before .before .before .before .before .before .before .before .before .before .pre .0 .shown), omega (arith, c .before .before .before .before .before .before .before .before .before .before .get .ensures .1 .1 .0))
-
 remove-requires : tie.Need-remove-requires
 remove-requires c κs = (reading.shown-room _ (c .before .before .before .disown .ensures) (shown-room _ _ (c .before .before .before .before .before .before .before .before .before .before .before .before .before .before .before .before .before .before .pre .0 .shown) .1), omega (arith, c .before .before .before .before .before .before .before .before .before .before .before .before .before .before .before .before .before .before .pre .1, ap (λ (k : List Slot). length k) (c .before .before .before .disown .ensures .1)))
 
@@ -36,6 +27,7 @@ returns-2 : tie.Need-returns-2
 returns-2 c = owner-gone _ _ _ (c .before .before .before .before .before .before .before .before .before .before .before .before .before .before .before .before .before .before .before .before .before .pre .1) (c .before .before .before .before .before .before .before .before .before .before .before .before .before .before .before .before .before .get .ensures .0) (c .before .before .before .before .before .before .before .before .before .before .before .before .before .before .before .before .before .before .before .before .before .args .taken .now) _ (c .before .before .before .before .before .before .before .before .before .before .before .before .before .before .before .before .before .before .before .before .before .pre .3) (c .before .before .before .before .before .before .before .before .before .before .before .before .before .left-to .last .1 .1 .1 .0) (c .before .before .before .before .before .before .before .before .before .before .before .before .before .left-to .ensures .1) (c .before .before .before .before .before .before .before .before .before .before .shrink-approximate .ensures) (c .before .before .before .before .before .before .before .before .enum-told .given .1) _ _ (c .before .before .before .before .before .before .disown .ensures) (c .before .before .remove .ensures)
 
 pub shrink-owner-spec : {M : Type 1} → statement M
-shrink-owner-spec = tie.close (tie.spec get-requires (λ c. search needs) (λ c κs. search needs) (λ c. search needs)
-    shrink-approximate-requires (λ c. search needs) (λ c. search needs) hand-over-requires put-requires
-    (λ c. search needs) returns (λ c. search needs) disown-requires remove-requires (λ c. search needs) returns-2)
+shrink-owner-spec = tie.close (tie.spec (λ c κs. search (shown-room, needs)) (λ c. search needs) (λ c κs. search needs)
+    (λ c. search needs) (λ c κs. search (kind-slot, needs)) (λ c. search needs) (λ c. search needs) hand-over-requires
+    put-requires (λ c. search needs) returns (λ c. search needs) (λ c κs. search (shown-room, needs)) remove-requires
+    (λ c. search needs) returns-2)

@@ -8,12 +8,7 @@ use Rattle.insertion.proofs.sink_in.Tie as tie
 insert-requires : tie.Need-insert-requires
 insert-requires c κs = let e = c .before .before .before .push-down .ensures in let k = push-length _ _ _ (e .1) in (e .0, omega (arith, k, c .before .before .before .before .before .place-of .ensures .0), omega (arith, k, c .before .before .before .before .before .before .before .before .before .before .before .pre .1), (omega arith, c .before .before .before .before .before .before .before .before .before .before .before .pre .2))
 
-returns : tie.Need-returns
-returns c = sink-between _ _ _ (c .before .before .before .before .before .before .before .before .before .before .before .meets-at .ensures) (c .before .before .before .before .before .before .before .before .before .before .if1 .taken) _ (c .before .before .before .before .before .before .before .before .place-of .ensures .1) _ _ (c .before .before .before .before .before .before .push-down .ensures) (c .before .before .insert .ensures)
-
-returns-2 : tie.Need-returns-2
-returns-2 c = sink-there _ _ _ (c .before .before .before .before .before .before .before .meets-at .ensures) (c .before .before .before .before .before .before .if1 .left) _ (c .before .before .before .before .place-of2 .ensures .1) _ (c .before .before .insert2 .ensures)
-
 pub sink-in-spec : {M : Type 1} → statement M
 sink-in-spec = tie.close (tie.spec (λ c κs. search needs) (λ c κs. search needs) (λ c κs. search needs) insert-requires
-    (λ c. search needs) returns (λ c κs. search needs) (λ c κs. search needs) (λ c. search needs) returns-2)
+    (λ c. search needs) (λ c. search (sink-between, needs)) (λ c κs. search needs) (λ c κs. search needs)
+    (λ c. search needs) (λ c. search (sink-there, needs)))

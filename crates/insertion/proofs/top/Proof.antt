@@ -4,8 +4,6 @@ use borrow.Author.Needs.{needs}
 use Rattle.insertion.proofs.top.Statement.{statement}
 use Rattle.insertion.proofs.top.Tie as tie
 
-returns : tie.Need-returns
-returns c = top-put _ _ _ (c .before .before .before .before .place-of .ensures .1) _ (c .before .before .insert .ensures)
-
 pub top-spec : {M : Type 1} → statement M
-top-spec = tie.close (tie.spec (λ c κs. search needs) (λ c κs. search needs) (λ c. search needs) returns)
+top-spec = tie.close (tie.spec (λ c κs. search needs) (λ c κs. search needs) (λ c. search needs)
+    (λ c. search (top-put, needs)))

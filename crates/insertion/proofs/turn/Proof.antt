@@ -7,9 +7,6 @@ use borrow.Author.Needs.{needs}
 use Rattle.insertion.proofs.turn.Statement.{statement}
 use Rattle.insertion.proofs.turn.Tie as tie
 
-get-requires : tie.Need-get-requires
-get-requires c κs = (shown-room _ _ (c .before .before .before .pre .0 .shown), c .before .before .before .pre .1)
-
 add-result : tie.Need-add-result
 add-result c = record { fits = omega (arith, c .before .before .before .before .before .before .before .pre .1, shown-room _ _ (c .before .before .before .before .before .before .before .pre .0 .shown) .1) }
 
@@ -32,6 +29,7 @@ returns-4 : tie.Need-returns-4
 returns-4 c = turn-gone _ _ _ _ (c .before .before .before .before .before .before .before .before .before .before .before .before .before .args .mask .now) (c .before .before .before .before .before .before .before .before .before .before .before .before .before .pre .1) (c .before .before .before .before .before .before .before .before .before .get .ensures .0) (c .before .before .before .before .before .before .before .before .before .before .before .before .before .pre .2) _ (c .before .before .before .before .before .before .before .meets .ensures) (not-false _ (c .before .before .before .before .before .before .if1 .left)) _ _ (c .before .before .before .before .shrink-at .ensures) (c .enum-told .given .1)
 
 pub turn-spec : {M : Type 1} → statement M
-turn-spec = tie.close (tie.spec get-requires (λ c κs. search needs) add-result (λ c. search needs) returns
-    (λ c κs. search needs) (λ c. search needs) (λ c κs. search needs) add-result-2 (λ c. search needs) returns-2
-    lower-requires (λ c. search needs) returns-3 (λ c. search needs) (λ c. search needs) returns-4)
+turn-spec = tie.close (tie.spec (λ c κs. search (shown-room, needs)) (λ c κs. search needs) add-result
+    (λ c. search needs) returns (λ c κs. search needs) (λ c. search needs) (λ c κs. search needs) add-result-2
+    (λ c. search needs) returns-2 lower-requires (λ c. search needs) returns-3 (λ c. search needs) (λ c. search needs)
+    returns-4)

@@ -15,9 +15,6 @@ Inv-loop b₀ r mask k₀ i₀ b k i = (q : Parted b₀ mask r) → Turning (asR
 abbrev μ-loop : tie.MeasureT-loop
 μ-loop b₀ r mask k₀ i₀ b k i = k
 
-place-of-requires : tie.Need-place-of-requires Inv-loop μ-loop
-place-of-requires c κs = shown-room _ _ (c .before .before .before .pre .0 .shown)
-
 loop-holds : tie.Need-loop-holds Inv-loop μ-loop
 loop-holds c = λ q. turning-start _ _ _ _ _ (q .shown) (c .place-of .ensures .1)
 
@@ -34,5 +31,5 @@ returns : tie.Need-returns Inv-loop μ-loop
 returns c = λ q. turning-end _ _ _ _ _ _ (c .loop-test .left) (c .before .loop .inv q)
 
 pub victims-spec : {M : Type 1} → statement M
-victims-spec = tie.close (tie.spec Inv-loop μ-loop place-of-requires loop-holds turn-requires (λ c. search needs)
-    (λ c. search needs) loop-again same-length returns)
+victims-spec = tie.close (tie.spec Inv-loop μ-loop (λ c κs. search (shown-room, needs)) loop-holds turn-requires
+    (λ c. search needs) (λ c. search needs) loop-again same-length returns)

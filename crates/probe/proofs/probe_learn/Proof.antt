@@ -25,9 +25,6 @@ abbrev μ-loop : tie.MeasureT-loop
 run : (c : tie.In-loop Inv-loop μ-loop) → Held (length (c .before .before .before .before .before .args .written .now) - c .before .loop .i) (runAt (boundsOf (c .before .before .before .before .before .args .g) (c .before .before .before .before .before .args .first) (c .before .before .before .before .before .args .written .now)) (c .before .before .before .before .before .args .written .now) (c .before .loop .i))
 run c = held _ _ _ (c .loop-test .taken) (c .before .before .before .before .before .pre .0 .0) (omega (arith, c .loop-test .taken))
 
-loop-holds : tie.Need-loop-holds Inv-loop μ-loop
-loop-holds c = (stored-start _ _ _, bytes-start _ _ _)
-
 encode-requires : tie.Need-encode-requires Inv-loop μ-loop
 encode-requires c κs = (omega (arith, c .before .before .before .before .loop .inv .1 .kept, c .before .before .before .before .loop .inv .0 .few, c .before .before .before .loop-test .taken, c .before .before .before .before .before .before .before .before .pre .1 .0), subst (λ (r : Record). InEight r) (sym (c .before .before .run-at .ensures .0)) (run (c .before .before .before) .bytes))
 
@@ -56,6 +53,6 @@ returns c =
     (e .0, (bytes-all _ _ _ _ _ _ (so .0) _ _ (so .1) (c .loop-test .left), e .1))
 
 pub probe-learn-spec : {M : Type 1} → statement M
-probe-learn-spec = tie.close (tie.spec Inv-loop μ-loop loop-holds (λ c κs. search needs) (λ c. search needs)
-    encode-requires cast-taken (λ c. search needs) (λ c. search needs) add-i (λ c. search needs) loop-less loop-again
-    (λ c. search needs) (λ c. search needs) returns)
+probe-learn-spec = tie.close (tie.spec Inv-loop μ-loop (λ c. search (stored-start, bytes-start, needs))
+    (λ c κs. search needs) (λ c. search needs) encode-requires cast-taken (λ c. search needs) (λ c. search needs) add-i
+    (λ c. search needs) loop-less loop-again (λ c. search needs) (λ c. search needs) returns)

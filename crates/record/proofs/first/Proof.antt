@@ -14,9 +14,6 @@ Inv-loop mask kept s d e o₀ o = Failed (stays kept mask) s d o
 abbrev μ-loop : tie.MeasureT-loop
 μ-loop mask kept s d e o₀ o = e + 1 - o
 
-loop-holds : tie.Need-loop-holds Inv-loop μ-loop
-loop-holds c = up-start _ _ _
-
 returns : tie.Need-returns Inv-loop μ-loop
 returns c = (c .before .before .before .loop .inv, λ h. sym (c .before .staying .ensures) ∙ c .if1 .taken)
 
@@ -27,5 +24,5 @@ returns-2 : tie.Need-returns-2 Inv-loop μ-loop
 returns-2 c = (c .before .loop .inv, λ h. absurd (let z : ⊥ = omega arith in z))
 
 pub first-spec : {M : Type 1} → statement M
-first-spec = tie.close (tie.spec Inv-loop μ-loop loop-holds (λ c κs. search needs) returns (λ c. omega arith)
-    (λ c. omega arith) loop-again returns-2)
+first-spec = tie.close (tie.spec Inv-loop μ-loop (λ c. search (up-start, needs)) (λ c κs. search needs) returns
+    (λ c. omega arith) (λ c. omega arith) loop-again returns-2)

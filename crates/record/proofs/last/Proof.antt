@@ -13,9 +13,6 @@ Inv-loop mask kept f d e o₀ o = FailedAfter (stays kept mask) f d e o
 abbrev μ-loop : tie.MeasureT-loop
 μ-loop mask kept f d e o₀ o = o
 
-loop-holds : tie.Need-loop-holds Inv-loop μ-loop
-loop-holds c = down-start _ _ _ _ (c .before .pre .2) (c .before .pre .4)
-
 returns : tie.Need-returns Inv-loop μ-loop
 returns c = (c .before .before .before .loop .inv, sym (c .before .staying .ensures) ∙ c .if1 .taken)
 
@@ -31,5 +28,5 @@ returns-2 c =
     (c .before .loop .inv, ap (stays _ _) e ∙ c .before .before .before .pre .5)
 
 pub last-spec : {M : Type 1} → statement M
-last-spec = tie.close (tie.spec Inv-loop μ-loop loop-holds (λ c κs. search needs) returns sub-o (λ c. omega arith)
-    loop-again returns-2)
+last-spec = tie.close (tie.spec Inv-loop μ-loop (λ c. search (down-start, needs)) (λ c κs. search needs) returns sub-o
+    (λ c. omega arith) loop-again returns-2)

@@ -5,10 +5,5 @@ use borrow.Author.Needs.{needs}
 use Rattle.slots.proofs.get.Statement.{statement}
 use Rattle.slots.proofs.get.Tie as tie
 
-returns : tie.Need-returns
-returns c =
-    let read = c .slot-at .ensures in
-    (read .0 ∙ sym (getD-slotsOf _ _ (c .before .before .pre .1)), (read .1, read .2))
-
 pub get-spec : {M : Type 1} → statement M
-get-spec = tie.close (tie.spec (λ c κs. search needs) returns)
+get-spec = tie.close (tie.spec (λ c κs. search needs) (λ c. search (getD-slotsOf, needs)))

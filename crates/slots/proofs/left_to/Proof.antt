@@ -17,9 +17,6 @@ Inv-loop b start taken left₀ o₀ left o = (length left ≡ offsets) × Passed
 abbrev μ-loop : tie.MeasureT-loop
 μ-loop b start taken left₀ o₀ left o = offsets - o
 
-loop-holds : tie.Need-loop-holds Inv-loop μ-loop
-loop-holds c = (c .before .before .before .pre .3, passed-start _ _)
-
 loop-again : tie.Need-loop-again Inv-loop μ-loop
 loop-again c =
     let so = c .before .before .before .before .loop in
@@ -30,6 +27,6 @@ returns : tie.Need-returns Inv-loop μ-loop
 returns c = (c .before .loop .inv .0, passed-end _ _ _ _ (c .before .loop .inv .1) (c .loop-test .left))
 
 pub left-to-spec : {M : Type 1} → statement M
-left-to-spec = tie.close (tie.spec Inv-loop μ-loop loop-holds (λ c κs. search needs) (λ c. omega arith)
-    (λ c. omega arith) (λ c κs. search needs) (λ c. omega arith) (λ c. omega arith) (λ c. omega arith)
-    (λ c. omega arith) loop-again (λ c. search needs) returns)
+left-to-spec = tie.close (tie.spec Inv-loop μ-loop (λ c. search (passed-start, needs)) (λ c κs. search needs)
+    (λ c. omega arith) (λ c. omega arith) (λ c κs. search needs) (λ c. omega arith) (λ c. omega arith)
+    (λ c. omega arith) (λ c. omega arith) loop-again (λ c. search needs) returns)

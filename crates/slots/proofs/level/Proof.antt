@@ -7,11 +7,5 @@ use borrow.Author.Needs.{needs}
 use Rattle.slots.proofs.level.Statement.{statement}
 use Rattle.slots.proofs.level.Tie as tie
 
-returns : tie.Need-returns
-unfolding slotOf
-returns c =
-    let read = c .level .ensures in
-    (read .0 ∙ sym (ap (λ (s : Slot). s .level) (getD-slotsOf _ _ (c .before .before .pre .1))), read .1)
-
 pub level-spec : {M : Type 1} → statement M
-level-spec = tie.close (tie.spec (λ c κs. search needs) returns)
+level-spec = tie.close (tie.spec (λ c κs. search needs) (λ c. unfold slotOf in search (getD-slotsOf, needs)))

@@ -16,17 +16,7 @@ Inv-loop b₀ start mask o₀ b o = Renaming (λ k w. takenBy start (masked mask
 abbrev μ-loop : tie.MeasureT-loop
 μ-loop b₀ start mask o₀ b o = offsets - o
 
-loop-again : tie.Need-loop-again Inv-loop μ-loop
-loop-again c =
-    let so = c .before .before .before .before .before .before .before .before .before .loop .inv in
-    let was = c .before .before .before .before .before .before .owner .ensures .0 in
-    let becomes = c .before .before .before .before .owned .ensures .0 in
-    rename-turn _ _ _ _ so _ _ _ (c .before .before .before .before .before .before .before .before .loop-test .taken) was becomes (c .before .before .set-entry .ensures)
-
-returns : tie.Need-returns Inv-loop μ-loop
-returns c = rename-end _ _ _ _ (c .before .loop .inv) (c .loop-test .left)
-
 pub own-all-spec : {M : Type 1} → statement M
 own-all-spec = tie.close (tie.spec Inv-loop μ-loop (λ c. search needs) (λ c κs. search needs) (λ c. omega arith)
-    (λ c. omega arith) (λ c κs. search needs) (λ c κs. search needs) (λ c. omega arith) (λ c. omega arith) loop-again
-    (λ c. search needs) returns)
+    (λ c. omega arith) (λ c κs. search needs) (λ c κs. search needs) (λ c. omega arith) (λ c. omega arith)
+    (λ c. search (rename-turn, needs)) (λ c. search needs) (λ c. search (rename-end, needs)))

@@ -16,12 +16,6 @@ Inv-loop b₀ i n j₀ b j = Changing (pushDownFrom 0) (pushDownFrom i (slotsOf 
 abbrev μ-loop : tie.MeasureT-loop
 μ-loop b₀ i n j₀ b j = n - j
 
-loop-holds : tie.Need-loop-holds Inv-loop μ-loop
-loop-holds c =
-    let start = c .before .before .before in
-    let n = c .used .ensures .1 in
-    (change-start _ _ _ _ _ (start .pre .0) n (push-behind _ _), down-start _ _ _ n (start .pre .1))
-
 relevel-requires : tie.Need-relevel-requires Inv-loop μ-loop
 relevel-requires c κs =
     let so = c .before .before .before .before .loop in
@@ -37,10 +31,8 @@ loop-again c =
       down-turn _ _ _ _ _ (done .1) (so .1),
     )
 
-returns : tie.Need-returns Inv-loop μ-loop
-unfolding pushDownFrom
-returns c = change-end _ _ _ _ _ _ (c .before .loop .inv .0) refl (c .loop-test .left)
-
 pub push-down-spec : {M : Type 1} → statement M
-push-down-spec = tie.close (tie.spec Inv-loop μ-loop (λ c κs. search needs) loop-holds (λ c κs. search needs)
-    (λ c. omega arith) relevel-requires (λ c. omega arith) (λ c. omega arith) loop-again (λ c. search needs) returns)
+push-down-spec = tie.close (tie.spec Inv-loop μ-loop (λ c κs. search needs)
+    (λ c. search (change-start, push-behind, down-start, needs)) (λ c κs. search needs) (λ c. omega arith)
+    relevel-requires (λ c. omega arith) (λ c. omega arith) loop-again (λ c. search needs)
+    (λ c. unfold pushDownFrom in search (change-end, needs)))

@@ -25,11 +25,8 @@ loop-again c =
       omega (arith, number .1, so .1),
     )
 
-returns : tie.Need-returns Inv-loop μ-loop
-unfolding renumberLevels
-returns c = change-end _ _ _ _ _ _ (c .before .loop .inv .0) refl (c .loop-test .left)
-
 pub renumber-levels-spec : {M : Type 1} → statement M
 renumber-levels-spec = tie.close (tie.spec Inv-loop μ-loop (λ c κs. search needs)
     (λ c. unfold behindFirst in search needs) (λ c κs. search needs) (λ c κs. search needs) (λ c κs. search needs)
-    (λ c. omega arith) (λ c. omega arith) loop-again (λ c. search needs) returns)
+    (λ c. omega arith) (λ c. omega arith) loop-again (λ c. search needs)
+    (λ c. unfold renumberLevels in search (change-end, needs)))

@@ -5,10 +5,5 @@ use borrow.Author.Needs.{needs}
 use Rattle.slots.proofs.used.Statement.{statement}
 use Rattle.slots.proofs.used.Tie as tie
 
-returns : tie.Need-returns
-returns c =
-    let read = c .used .ensures in
-    (read .0, read .0 ∙ sym (length-slotsOf _), read .1)
-
 pub used-spec : {M : Type 1} → statement M
-used-spec = tie.close (tie.spec (λ c κs. search needs) returns)
+used-spec = tie.close (tie.spec (λ c κs. search needs) (λ c. search (length-slotsOf, needs)))

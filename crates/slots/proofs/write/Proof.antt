@@ -6,9 +6,7 @@ use borrow.Author.Needs.{needs}
 use Rattle.slots.proofs.write.Statement.{statement}
 use Rattle.slots.proofs.write.Tie as tie
 
-returns : tie.Need-returns
-returns c = ten-stored _ _ _ _ _ (c .before .before .before .before .before .before .encode .ensures) (c .before .before .put-u16 .ensures)
-
 pub write-spec : {M : Type 1} → statement M
 write-spec = tie.close (tie.spec (λ c. search needs) (λ c. search needs) (λ c κs. unfold groupLength in search needs)
-    (λ c. search needs) (λ c κs. unfold groupLength in search needs) (λ c. search needs) returns)
+    (λ c. search needs) (λ c κs. unfold groupLength in search needs) (λ c. search needs)
+    (λ c. search (ten-stored, needs)))

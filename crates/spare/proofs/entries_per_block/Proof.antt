@@ -8,8 +8,5 @@ use Rattle.spare.proofs.entries_per_block.Tie as tie
 mul-result : tie.Need-mul-result
 mul-result c = omega (arith, sizes _ (c .before .before .pre) .block, block-size _ _ (c .before .entries-per-page .ensures))
 
-returns : tie.Need-returns
-returns c = block-size _ _ (c .before .entries-per-page .ensures)
-
 pub entries-per-block-spec : {M : Type 1} → statement M
-entries-per-block-spec = tie.close (tie.spec (λ c κs. search needs) mul-result returns)
+entries-per-block-spec = tie.close (tie.spec (λ c κs. search needs) mul-result (λ c. search (block-size, needs)))

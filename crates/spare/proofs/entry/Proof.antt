@@ -24,15 +24,6 @@ add-at c = omega (arith, inside c, small c)
 cast-at : tie.Need-cast-at
 cast-at c = omega (arith, inside c, small c)
 
-mul-result : tie.Need-mul-result
-mul-result c = omega (arith, inside c, small c)
-
-shared-slice-read-result : tie.Need-shared-slice-read-result
-shared-slice-read-result c = omega (arith, inside (c .before))
-
-returns : tie.Need-returns
-returns c = entry-read _ _ _ _ _ (c .before .entries-per-page .ensures) (inside (c .before))
-
 pub entry-spec : {M : Type 1} → statement M
-entry-spec = tie.close (tie.spec (λ c κs. search needs) mul-at add-at cast-at mul-result shared-slice-read-result
-    returns)
+entry-spec = tie.close (tie.spec (λ c κs. search needs) mul-at add-at cast-at (λ c. search (inside, small, needs))
+    (λ c. search (inside, needs)) (λ c. search (entry-read, inside, needs)))

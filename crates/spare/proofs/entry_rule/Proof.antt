@@ -9,18 +9,12 @@ use Rattle.spare.proofs.entry_rule.Tie as tie
 add-if1 : tie.Need-add-if1
 add-if1 c = omega (arith, sizes _ (c .pre .0))
 
-returns : tie.Need-returns
-returns c = rule-before _ _ _ _ (c .if1 .taken)
-
 add-y : tie.Need-add-y
 add-y c = let s = c .before .pre in omega (arith, s .1, s .2, sizes _ (s .0))
 
 returns-2 : tie.Need-returns-2
 returns-2 c = rule-written _ _ _ _ (c .before .before .if1 .left) (c .before .if2 .taken)
 
-returns-3 : tie.Need-returns-3
-returns-3 c = rule-behind _ _ _ _ (c .before .if1 .left) (c .if2 .left)
-
 pub entry-rule-spec : {M : Type 1} → statement M
-entry-rule-spec = tie.close (tie.spec add-if1 returns add-y (λ c. search needs) (λ c. search needs) (λ c. search needs)
-    (λ c. search needs) returns-2 returns-3)
+entry-rule-spec = tie.close (tie.spec add-if1 (λ c. search (rule-before, needs)) add-y (λ c. search needs)
+    (λ c. search needs) (λ c. search needs) (λ c. search needs) returns-2 (λ c. search (rule-behind, needs)))

@@ -25,12 +25,9 @@ cast-a c = omega (arith, inside c, small c)
 add-e : tie.Need-add-e
 add-e c = omega (arith, inside c, small c)
 
-blank-requires : tie.Need-blank-requires
-blank-requires c κs = (omega arith, omega (arith, inside (c .before)))
-
 returns : tie.Need-returns
 returns c = c .before .before .blank .ensures ∙ erase-fill _ _ _ _ (c .before .before .before .before .entries-per-block .ensures)
 
 pub erase-spec : {M : Type 1} → statement M
-erase-spec = tie.close (tie.spec (λ c κs. search needs) mul-a cast-a (λ c. search needs) add-e blank-requires
-    (λ c. search needs) returns)
+erase-spec = tie.close (tie.spec (λ c κs. search needs) mul-a cast-a (λ c. search needs) add-e
+    (λ c κs. search (inside, needs)) (λ c. search needs) returns)

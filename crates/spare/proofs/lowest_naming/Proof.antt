@@ -18,9 +18,6 @@ Inv-loop spare d p x g n j₀ j = (j ≤ n) × (lowestNaming (numbersOf d) spare
 abbrev μ-loop : tie.MeasureT-loop
 μ-loop spare d p x g n j₀ j = n - j
 
-loop-holds : tie.Need-loop-holds Inv-loop μ-loop
-loop-holds c = (omega arith, lowest-start _ _ _ _ _ (c .entries-per-page .ensures))
-
 add-q : tie.Need-add-q Inv-loop μ-loop
 add-q c = let s = c .before .before .before .before .before .before .pre in omega (arith, s .2, sizes _ (s .0), c .before .before .before .before .entries-per-page .ensures)
 
@@ -39,5 +36,5 @@ unfolding namedOf
 returns-2 c = sym (c .before .loop .inv .1 ∙ lowest-end _ _ _ _ _ _ (c .loop-test .left))
 
 pub lowest-naming-spec : {M : Type 1} → statement M
-lowest-naming-spec = tie.close (tie.spec Inv-loop μ-loop (λ c κs. search needs) loop-holds (λ c κs. search needs) add-q
-    sub-q returns (λ c. omega arith) (λ c. omega arith) loop-again returns-2)
+lowest-naming-spec = tie.close (tie.spec Inv-loop μ-loop (λ c κs. search needs) (λ c. search (lowest-start, needs))
+    (λ c κs. search needs) add-q sub-q returns (λ c. omega arith) (λ c. omega arith) loop-again returns-2)

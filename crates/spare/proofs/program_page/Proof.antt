@@ -39,9 +39,6 @@ add-a c = omega (arith, place c)
 mul-a-2 : tie.Need-mul-a-2 Inv-loop μ-loop
 mul-a-2 c = omega (arith, inside c, small c)
 
-loop-holds : tie.Need-loop-holds Inv-loop μ-loop
-loop-holds c = (omega arith, refl, page-start _ _ _ _ _ _ (c .before .entries-per-page .ensures))
-
 add-at : tie.Need-add-at Inv-loop μ-loop
 add-at c = omega (arith, inside (c .before .before), small (c .before .before))
 
@@ -61,6 +58,6 @@ returns : tie.Need-returns Inv-loop μ-loop
 returns c = sym (c .before .loop .inv .2 ∙ page-end _ _ _ _ _ _ _ (c .loop-test .left))
 
 pub program-page-spec : {M : Type 1} → statement M
-program-page-spec = tie.close (tie.spec Inv-loop μ-loop (λ c κs. search needs) mul-a add-a mul-a-2 loop-holds add-at
-    cast-at (λ c κs. search needs) mul-spare slice-write-spare (λ c. omega arith) (λ c. omega arith) loop-again
-    (λ c. omega arith) returns)
+program-page-spec = tie.close (tie.spec Inv-loop μ-loop (λ c κs. search needs) mul-a add-a mul-a-2
+    (λ c. search (page-start, needs)) add-at cast-at (λ c κs. search needs) mul-spare slice-write-spare
+    (λ c. omega arith) (λ c. omega arith) loop-again (λ c. omega arith) returns)

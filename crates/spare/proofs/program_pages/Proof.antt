@@ -20,9 +20,6 @@ Inv-loop spare₀ d written k i₀ spare i =
 abbrev μ-loop : tie.MeasureT-loop
 μ-loop spare₀ d written k i₀ spare i = length written - i
 
-loop-holds : tie.Need-loop-holds Inv-loop μ-loop
-loop-holds c = (omega arith, refl, pages-start _ _ _ _ _)
-
 loop-again : tie.Need-loop-again Inv-loop μ-loop
 loop-again c = (omega arith, omega (arith, c .before .before .program-page .kept .0), c .before .before .before .before .before .loop .inv .2 ∙ pages-turn _ _ _ _ _ _ _ (c .before .before .program-page .ensures) (c .before .before .before .before .loop-test .taken))
 
@@ -30,5 +27,5 @@ returns : tie.Need-returns Inv-loop μ-loop
 returns c = sym (c .before .loop .inv .2 ∙ pages-end _ _ _ _ _ _ (c .loop-test .left))
 
 pub program-pages-spec : {M : Type 1} → statement M
-program-pages-spec = tie.close (tie.spec Inv-loop μ-loop loop-holds (λ c. search needs) (λ c κs. search needs)
-    (λ c. omega arith) (λ c. omega arith) loop-again (λ c. omega arith) returns)
+program-pages-spec = tie.close (tie.spec Inv-loop μ-loop (λ c. search (pages-start, needs)) (λ c. search needs)
+    (λ c κs. search needs) (λ c. omega arith) (λ c. omega arith) loop-again (λ c. omega arith) returns)

@@ -11,8 +11,5 @@ mul-result c = omega (arith, sizes _ (c .before .before .pre) .area, area-size _
 cast-result : tie.Need-cast-result
 cast-result c = omega (arith, sizes _ (c .before .before .pre) .area, area-size _ _ (c .before .entries-per-block .ensures))
 
-returns : tie.Need-returns
-returns c = area-size _ _ (c .before .entries-per-block .ensures)
-
 pub spare-len-spec : {M : Type 1} → statement M
-spare-len-spec = tie.close (tie.spec (λ c κs. search needs) mul-result cast-result returns)
+spare-len-spec = tie.close (tie.spec (λ c κs. search needs) mul-result cast-result (λ c. search (area-size, needs)))

@@ -3,8 +3,5 @@ use borrow.Author.Needs.{needs}
 use Rattle.learn.proofs.runs.common.Statement.{statement}
 use Rattle.learn.proofs.runs.common.Tie as tie
 
-returns : tie.Need-returns
-returns c = common-is _ _ _ _ (c .before .greater .ensures) (c .smaller .ensures)
-
 pub common-spec : {M : Type 1} → statement M
-common-spec = tie.close (tie.spec (λ c κs. search needs) (λ c κs. search needs) returns)
+common-spec = tie.close (tie.spec (λ c κs. search needs) (λ c κs. search needs) (λ c. search (common-is, needs)))

@@ -20,9 +20,6 @@ abbrev μ-loop : tie.MeasureT-loop
 goes : (c : tie.Then1 Inv-loop μ-loop) → Goes (c .before .before .before .before .before .before .before .before .args .written .now) (getD (c .before .before .before .before .before .before .before .before .args .written .now) (c .before .before .before .before .before .before .before .before .args .i) 0 / 256) (c .before .before .loop .j)
 goes c = ahead-some _ _ _ (sym (c .before .ended .ensures) ∙ not-true _ (c .if1 .taken))
 
-loop-holds : tie.Need-loop-holds Inv-loop μ-loop
-loop-holds c = (omega arith, omega arith, reach-starts _ _ _ _ _ refl _ (c .suiting .ensures))
-
 shared-slice-read-suiting-2 : tie.Need-shared-slice-read-suiting-2 Inv-loop μ-loop
 shared-slice-read-suiting-2 c = goes (c .before) .inside
 
@@ -49,7 +46,7 @@ returns-2 c =
 
 pub reach-spec : {M : Type 1} → statement M
 reach-spec = tie.close (tie.spec Inv-loop μ-loop (λ c. omega arith) (λ c. omega arith) (λ c. omega arith)
-    (λ c. omega arith) (λ c. omega arith) (λ c. omega arith) (λ c κs. search needs) (λ c. omega arith) loop-holds
-    (λ c κs. search needs) (λ c. search needs) shared-slice-read-suiting-2 (λ c. omega arith) (λ c. search needs)
-    (λ c κs. search needs) (λ c κs. search needs) (λ c. omega arith) returns (λ c. omega arith) loop-less loop-again
-    (λ c. omega arith) returns-2)
+    (λ c. omega arith) (λ c. omega arith) (λ c. omega arith) (λ c κs. search needs) (λ c. omega arith)
+    (λ c. search (reach-starts, needs)) (λ c κs. search needs) (λ c. search needs) shared-slice-read-suiting-2
+    (λ c. omega arith) (λ c. search needs) (λ c κs. search needs) (λ c κs. search needs) (λ c. omega arith) returns
+    (λ c. omega arith) loop-less loop-again (λ c. omega arith) returns-2)

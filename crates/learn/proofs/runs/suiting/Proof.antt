@@ -16,9 +16,6 @@ sub-t8 c = omega (arith, product-small (c .before .args .a) (c .before .args .o)
 sub-t12 : tie.Need-sub-t12
 sub-t12 c = omega (arith, product-small (c .before .before .before .args .a) (c .before .before .before .args .o) (c .before .before .before .pre .4) (c .before .before .before .pre .5))
 
-returns : tie.Need-returns
-returns c = suiting-is _ _ _ _ _ _ (c .before .before .lowest .ensures) (c .smaller .ensures)
-
 pub suiting-spec : {M : Type 1} → statement M
 suiting-spec = tie.close (tie.spec mul-up add-up (λ c κs. search needs) (λ c. search needs) sub-t8 (λ c. search needs)
-    (λ c κs. search needs) (λ c. search needs) sub-t12 returns)
+    (λ c κs. search needs) (λ c. search needs) sub-t12 (λ c. search (suiting-is, needs)))

@@ -15,9 +15,6 @@ Inv-loop out₀ at width used i₀ k₀ out i k = (i + (width - k) ≡ at + (wid
 abbrev μ-loop : tie.MeasureT-loop
 μ-loop out₀ at width used i₀ k₀ out i k = width - k
 
-loop-again : tie.Need-loop-again Inv-loop μ-loop
-loop-again c = (omega arith, simp length-set (omega arith), blank-turn _ _ _ _ (c .loop-test .taken) ∙ c .before .loop .inv .2)
-
 returns : tie.Need-returns Inv-loop μ-loop
 returns c =
     let start = c .before .before .args in
@@ -26,4 +23,4 @@ returns c =
 
 pub put-blanks-spec : {M : Type 1} → statement M
 put-blanks-spec = tie.close (tie.spec Inv-loop μ-loop (λ c. search needs) (λ c. omega arith) (λ c. omega arith)
-    (λ c. omega arith) (λ c. omega arith) loop-again (λ c. omega arith) returns)
+    (λ c. omega arith) (λ c. omega arith) (λ c. search (length-set, blank-turn, needs)) (λ c. omega arith) returns)

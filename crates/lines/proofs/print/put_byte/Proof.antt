@@ -4,8 +4,6 @@ use borrow.Author.Needs.{needs}
 use Rattle.lines.proofs.print.put_byte.Statement.{statement}
 use Rattle.lines.proofs.print.put_byte.Tie as tie
 
-returns : tie.Need-returns
-returns c = laid-one _ _ _ (c .pre)
-
 pub put-byte-spec : {M : Type 1} → statement M
-put-byte-spec = tie.close (tie.spec (λ c. search needs) (λ c. search needs) (λ c. search needs) returns)
+put-byte-spec = tie.close (tie.spec (λ c. search needs) (λ c. search needs) (λ c. search needs)
+    (λ c. search (laid-one, needs)))

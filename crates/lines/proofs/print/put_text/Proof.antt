@@ -1,4 +1,5 @@
 -- The characters that are left make the whole store.
+use borrow.Author.Needs.{needs}
 use Prim.Native.Nat.{ℕ, _+_, _-_, _≤_}
 use native.Mathlib.Omega.{arith}
 use mathlib.Core.Path.{_≡_, refl, ap, _∙_}
@@ -17,12 +18,10 @@ abbrev μ-loop : tie.MeasureT-loop
 loop-holds : tie.Need-loop-holds Inv-loop μ-loop
 loop-holds c = (omega arith, refl, let e : c .args .at + 0 ≡ c .args .at = omega arith in ap (λ (p : ℕ). store (c .args .out .now) p (c .args .text .now)) e)
 
-loop-again : tie.Need-loop-again Inv-loop μ-loop
-loop-again c = (omega arith, simp length-set (omega arith), text-turn _ _ _ _ (c .before .loop-test .taken) ∙ c .before .before .loop .inv .2)
-
 returns : tie.Need-returns Inv-loop μ-loop
 returns c = laid-all _ _ (drop-of-length-le _ (c .loop-test .left)) (c .before .loop .inv .2) (omega arith) (omega arith)
 
 pub put-text-spec : {M : Type 1} → statement M
 put-text-spec = tie.close (tie.spec Inv-loop μ-loop loop-holds (λ c. omega arith) (λ c. omega arith) (λ c. omega arith)
-    (λ c. omega arith) (λ c. omega arith) loop-again (λ c. omega arith) (λ c. omega arith) returns)
+    (λ c. omega arith) (λ c. omega arith) (λ c. search (length-set, text-turn, needs)) (λ c. omega arith)
+    (λ c. omega arith) returns)

@@ -1,4 +1,5 @@
 -- The digits passed make v, and v with those left makes the number.
+use borrow.Author.Needs.{needs}
 use Prim.Native.Nat.{_+_, _-_, _*_, _^_, _≤_, _<_}
 use native.Mathlib.Omega.{arith}
 use native.Mathlib.Nat.{one-le-pow}
@@ -19,9 +20,6 @@ abbrev μ-loop : tie.MeasureT-loop
 -- v with the digit at place i behind it
 small : (c : tie.Else2 Inv-loop μ-loop) → Small (10 * c .before .before .before .before .loop .v + (getD (c .before .before .before .before .before .args .field .now) (c .before .before .before .before .loop .i) 0 - 48)) (c .before .before .before .before .loop .i + 1)
 small c = one-more _ _ _ (c .before .before .before .before .loop .inv .1) (omega arith) (omega arith)
-
-loop-holds : tie.Need-loop-holds Inv-loop μ-loop
-loop-holds c = (omega arith, one-le-pow _ _ (omega arith), refl)
 
 returns : tie.Need-returns Inv-loop μ-loop
 unfolding fieldRead
@@ -45,5 +43,5 @@ unfolding fieldRead
 returns-3 c = sym (digits-end _ _ _ (c .loop-test .left)) ∙ c .before .loop .inv .2
 
 pub digits-spec : {M : Type 1} → statement M
-digits-spec = tie.close (tie.spec Inv-loop μ-loop loop-holds (λ c. omega arith) returns returns-2 mul-v
-    (λ c. omega arith) add-v (λ c. omega arith) (λ c. omega arith) loop-again returns-3)
+digits-spec = tie.close (tie.spec Inv-loop μ-loop (λ c. search (one-le-pow, needs)) (λ c. omega arith) returns returns-2
+    mul-v (λ c. omega arith) add-v (λ c. omega arith) (λ c. omega arith) loop-again returns-3)

@@ -1,4 +1,5 @@
 -- One count of numbers for each operation.
+use borrow.Author.Needs.{needs}
 use mathlib.Core.Path.{sym}
 use Rattle.lines.specs.Script.{takes}
 use Rattle.lines.proofs.Lines.{takes-other}
@@ -29,8 +30,6 @@ returns-6 : tie.Need-returns-6
 unfolding takes
 returns-6 c = rw (c .match .keys6)
 
-returns-7 : tie.Need-returns-7
-returns-7 c = let rest = c .match .rest in sym (takes-other _ _ (rest .0 .0 .0 .0 .0 .1) (rest .0 .0 .0 .0 .1) (rest .0 .0 .0 .1) (rest .0 .0 .1) (rest .0 .1) (rest .1))
-
 pub takes-spec : {M : Type 1} → statement M
-takes-spec = tie.close (tie.spec returns returns-2 returns-3 returns-4 returns-5 returns-6 returns-7)
+takes-spec = tie.close (tie.spec returns returns-2 returns-3 returns-4 returns-5 returns-6
+    (λ c. search (takes-other, needs)))

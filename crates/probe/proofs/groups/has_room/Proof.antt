@@ -18,8 +18,6 @@ returns c = no-room _ (sym (c .before .is-sound .ensures) ∙ not-true _ (c .if1
 record-count-requires : tie.Need-record-count-requires
 record-count-requires c κs = (size _ (is-group c), sound-encodes 256 0 _ (sound _ (is-group c)))
 
-returns-2 : tie.Need-returns-2
-returns-2 c = room _ (is-group (c .before)) _ (c .record-count .ensures)
-
 pub has-room-spec : {M : Type 1} → statement M
-has-room-spec = tie.close (tie.spec (λ c κs. search needs) returns record-count-requires returns-2)
+has-room-spec = tie.close (tie.spec (λ c κs. search needs) returns record-count-requires
+    (λ c. search (room, is-group, needs)))

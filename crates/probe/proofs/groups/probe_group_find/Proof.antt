@@ -32,9 +32,6 @@ all-levels c =
 returns : tie.Need-returns
 returns c = not-sound _ _ (sym (c .before .is-sound .ensures) ∙ not-true _ (c .if1 .taken))
 
-returns-2 : tie.Need-returns-2
-returns-2 c = not-below _ _ (is-group (c .before)) (c .if2 .taken)
-
 find-requires : tie.Need-find-requires
 find-requires c κs = (size _ (is-group (c .before)), sound-encodes 256 0 _ (sound _ (is-group (c .before))), c .if2 .left)
 
@@ -53,17 +50,8 @@ add-result-3 c = omega (arith, levels (c .before .before))
 mul-result-3 : tie.Need-mul-result-3
 mul-result-3 c = omega (arith, all-levels c)
 
-returns-3 : tie.Need-returns-3
-returns-3 c =
-    let f = c .before .before .before .before .before .find .ensures in
-    found-at _ _ (is-group (c .before .before .before .before .before .before .before)) (c .before .before .before .before .before .before .if2 .left) _ _ _ (f .0) (f .1) (c .before .before .before .hit .given .1)
-
-returns-4 : tie.Need-returns-4
-returns-4 c =
-    let f = c .before .before .before .find .ensures in
-    found-nowhere _ _ (is-group (c .before .before .before .before .before)) (c .before .before .before .before .if2 .left) _ _ (f .0) (f .1) (c .before .hit2 .given .1)
-
 pub probe-group-find-spec : {M : Type 1} → statement M
-probe-group-find-spec = tie.close (tie.spec (λ c κs. search needs) returns returns-2 find-requires (λ c. search needs)
-    (λ c. search needs) mul-result add-result (λ c. search needs) (λ c. search needs) add-result-2 (λ c. search needs)
-    add-result-3 (λ c. search needs) (λ c. search needs) mul-result-3 returns-3 returns-4)
+probe-group-find-spec = tie.close (tie.spec (λ c κs. search needs) returns (λ c. search (not-below, is-group, needs))
+    find-requires (λ c. search needs) (λ c. search needs) mul-result add-result (λ c. search needs) (λ c. search needs)
+    add-result-2 (λ c. search needs) add-result-3 (λ c. search needs) (λ c. search needs) mul-result-3
+    (λ c. search (found-at, is-group, needs)) (λ c. search (found-nowhere, is-group, needs)))

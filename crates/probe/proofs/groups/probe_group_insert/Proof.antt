@@ -18,15 +18,10 @@ returns c = not-inserted _ _ _ (sym (c .before .may-insert .ensures) ∙ not-tru
 decode-requires : tie.Need-decode-requires
 decode-requires c κs = omega (arith, has-eight _ _ _ (may c))
 
-insert-requires : tie.Need-insert-requires
-insert-requires c κs = ready _ _ _ (may (c .before .before)) _ (c .before .decode .ensures .0)
-
 record-count-requires : tie.Need-record-count-requires
 record-count-requires c κs = (c .before .before .before .insert .kept .0 ∙ has-size _ _ _ (may (c .before .before .before .before .before .before)), still-encodes _ _ _ (may (c .before .before .before .before .before .before)) _ (c .before .before .before .before .before .decode .ensures .0) _ (c .before .before .before .insert .ensures))
 
-returns-2 : tie.Need-returns-2
-returns-2 c = inserted _ _ _ (may (c .before .before .before .before .before .before .before)) _ (c .before .before .before .before .before .before .decode .ensures .0) _ (c .before .before .before .before .insert .ensures) _ (c .record-count .ensures)
-
 pub probe-group-insert-spec : {M : Type 1} → statement M
 probe-group-insert-spec = tie.close (tie.spec (λ c κs. search needs) (λ c. search needs) returns decode-requires
-    insert-requires record-count-requires (λ c. search needs) (λ c. search needs) returns-2)
+    (λ c κs. search (ready, may, needs)) record-count-requires (λ c. search needs) (λ c. search needs)
+    (λ c. search (inserted, may, needs)))

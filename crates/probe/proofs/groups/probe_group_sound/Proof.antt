@@ -7,14 +7,6 @@ use Rattle.probe.proofs.Conditions.{not-long, not-low, asked}
 use Rattle.probe.proofs.groups.probe_group_sound.Statement.{statement}
 use Rattle.probe.proofs.groups.probe_group_sound.Tie as tie
 
-returns : tie.Need-returns
-unfolding groupLength
-returns c = not-long _ _ _ (c .if1 .taken)
-
-returns-2 : tie.Need-returns-2
-unfolding groupLength
-returns-2 c = not-low _ _ _ (c .before .if1 .left) (c .if2 .taken)
-
 returns-3 : tie.Need-returns-3
 unfolding groupLength bit
 returns-3 c = asked _ _ _ (c .before .before .before .if1 .left) (c .before .before .if2 .left) _ (sym (c .if3 .taken) ∙ c .before .sound .ensures)
@@ -24,5 +16,6 @@ unfolding groupLength bit
 returns-4 c = asked _ _ _ (c .before .before .before .if1 .left) (c .before .before .if2 .left) _ (sym (c .if3 .left) ∙ c .before .sound .ensures)
 
 pub probe-group-sound-spec : {M : Type 1} → statement M
-probe-group-sound-spec = tie.close (tie.spec returns returns-2 (λ c κs. unfold groupLength in search needs) returns-3
+probe-group-sound-spec = tie.close (tie.spec (λ c. unfold groupLength in search (not-long, needs))
+    (λ c. unfold groupLength in search (not-low, needs)) (λ c κs. unfold groupLength in search needs) returns-3
     returns-4)

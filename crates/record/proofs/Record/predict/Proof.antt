@@ -15,15 +15,10 @@ use Rattle.record.proofs.Record.predict.Tie as tie
 fits : (c : tie.After-struct-told) → SFits w32 (c .before .before .before .args .self .intercept)
 fits c = record { sfits = c .struct-told .given .1 .1 .1 .0 .1 }
 
-cast-result : tie.Need-cast-result
-cast-result c = wide _ (fits c)
-
-add-result : tie.Need-add-result
-add-result c = sum-fits _ (c .before .before .rise .result) (fits c) (omega arith)
-
 returns : tie.Need-returns
 unfolding predict
 returns c = λ L. sum-is _ (c .before .before .rise .result) (fits c) (omega arith) ∙ ap (λ (n : ℕ). c .before .before .before .args .self .intercept +ℤ pos n) (c .before .before .rise .ensures L)
 
 pub predict-spec : {M : Type 1} → statement M
-predict-spec = tie.close (tie.spec (λ c κs. search needs) cast-result (λ c. search needs) add-result returns)
+predict-spec = tie.close (tie.spec (λ c κs. search needs) (λ c. search (wide, fits, needs)) (λ c. search needs)
+    (λ c. search (sum-fits, fits, needs)) returns)

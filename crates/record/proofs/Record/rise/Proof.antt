@@ -6,12 +6,6 @@ use borrow.Author.Needs.{needs}
 use Rattle.record.proofs.Record.rise.Statement.{statement}
 use Rattle.record.proofs.Record.rise.Tie as tie
 
-returns : tie.Need-returns
-returns c = λ L. rise-single _ _ (c .if1 .taken)
-
-returns-2 : tie.Need-returns-2
-returns-2 c = λ L. rise-strided _ _ (c .before .if1 .left) (c .if2 .taken)
-
 mul-result : tie.Need-mul-result
 mul-result c =
     let h : c .before .before .args .self .word / 2 ≤ 256 = omega arith in
@@ -22,9 +16,6 @@ add-result-2 c =
     let h : c .before .before .args .self .word / 2 ≤ 256 = omega arith in
     omega (arith, slope-small _ _ h (c .before .before .pre .1))
 
-returns-3 : tie.Need-returns-3
-returns-3 c = λ L. rise-sloped _ _ (c .if2 .left)
-
 pub rise-spec : {M : Type 1} → statement M
-rise-spec = tie.close (tie.spec returns (λ c. search needs) (λ c. search needs) (λ c. search needs) returns-2 mul-result
-    add-result-2 returns-3)
+rise-spec = tie.close (tie.spec (λ c. search (rise-single, needs)) (λ c. search needs) (λ c. search needs)
+    (λ c. search needs) (λ c. search (rise-strided, needs)) mul-result add-result-2 (λ c. search (rise-sloped, needs)))

@@ -17,9 +17,6 @@ returns c = c .shrunk .ensures [] _ (single-picks _ _ (c .before .if1 .taken))
 rem-e : tie.Need-rem-e
 rem-e c = omega (arith, even-of _ (c .before .before .before .pre .2))
 
-sub-e : tie.Need-sub-e
-sub-e c = mod-le _ _
-
 shrunk-requires-2 : tie.Need-shrunk-requires-2
 shrunk-requires-2 c κs =
     let p = c .before .before .before .before .pre in
@@ -31,5 +28,5 @@ unfolding shrink
 returns-2 c = c .shrunk2 .ensures [] _ (strided-picks _ _ (c .before .before .before .if1 .left) (even-of _ (c .before .before .before .before .before .pre .2)))
 
 pub shrink-accurate-spec : {M : Type 1} → statement M
-shrink-accurate-spec = tie.close (tie.spec (λ c κs. search needs) returns rem-e sub-e (λ c. search needs)
-    shrunk-requires-2 returns-2)
+shrink-accurate-spec = tie.close (tie.spec (λ c κs. search needs) returns rem-e (λ c. search (mod-le, needs))
+    (λ c. search needs) shrunk-requires-2 returns-2)

@@ -8,10 +8,6 @@ use borrow.Author.Needs.{needs}
 use Rattle.record.proofs.Record.shrunk.Statement.{statement}
 use Rattle.record.proofs.Record.shrunk.Tie as tie
 
-returns : tie.Need-returns
-unfolding leftOf
-returns c = λ L t is. none-left t _ _ _ _ (c .before .before .before .pre .4) is _ _ (c .before .first .ensures) (c .if1 .taken)
-
 last-requires : tie.Need-last-requires
 last-requires c κs =
     let p = c .before .before .before .pre in
@@ -26,4 +22,5 @@ returns-2 c = λ L t is.
     (toZ-ofZ {w = w32} (record { sfits = c .struct-told .given .1 .1 .1 .0 .1 }))
 
 pub shrunk-spec : {M : Type 1} → statement M
-shrunk-spec = tie.close (tie.spec (λ c κs. search needs) returns last-requires (λ c. search needs) returns-2)
+shrunk-spec = tie.close (tie.spec (λ c κs. search needs) (λ c. unfold leftOf in search (none-left, needs)) last-requires
+    (λ c. search needs) returns-2)
