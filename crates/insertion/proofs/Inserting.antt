@@ -4,10 +4,10 @@ use mathlib.Core.List.{[], _∷_}
 use Rattle.model.specs.Record.{Record}
 use Rattle.group.specs.Cutting.{flatFrom, flat}
 use Rattle.bytes.specs.Slots.{insertAt}
-use Rattle.insertion.specs.Slots.{place}
+use Rattle.insertion.specs.Slots.{slotIndex}
 use Rattle.insertion.specs.InsertSlots.{topSlots}
 
 -- A record put first into a group that holds none.
 pub top-none : (r : Record) → topSlots r (flat []) ≡ flat ((r ∷ []) ∷ [])
-unfolding topSlots flatFrom insertAt place
+unfolding topSlots flatFrom insertAt slotIndex
 top-none r = refl

@@ -31,7 +31,7 @@ use Rattle.slots.specs.View.{Room, Shows}
 use Rattle.slots.specs.Edits as edits
 use Rattle.slots.specs.Edits.{renumbered}
 use Rattle.slots.specs.Owners.{takenBy}
-use Rattle.insertion.specs.Slots.{slot, records, place, keepSlot}
+use Rattle.insertion.specs.Slots.{slot, records, slotIndex, keepSlot}
 use Rattle.insertion.specs.InsertSlots.{given, giveUpSlots, renumber, settle, topSlots}
 use Rattle.insertion.specs.Shown.{weight, Shown}
 use Rattle.insertion.specs.Ready.{Parted, Ready}
@@ -155,7 +155,7 @@ module _ (b m : List ℕ) (r : Record) (q : Ready b m r) where
   pub top-room : (c : List ℕ) → Shown c turned → length (slotsOf c) < 512
   unfolding topSlots
   top-room c shown =
-      let one : length (topSlots R turned) ≡ suc (length turned) = insertAt-length (place 0 R turned) (slot 0 R) turned in
+      let one : length (topSlots R turned) ≡ suc (length turned) = insertAt-length (slotIndex 0 R turned) (slot 0 R) turned in
       let all-of : length (topSlots R turned) ≡ recordCount (insert R (q .group)) = ap (λ (k : List Placed). length k) inserted ∙ length-flat (insert R (q .group)) in
       omega (arith, shown-length c turned shown, one, all-of, insert-count R (q .group), q .few)
 
@@ -163,7 +163,7 @@ module _ (b m : List ℕ) (r : Record) (q : Ready b m r) where
   pub put-room : (c d : List ℕ) → Shown c turned → Shows d (map slotFor (topSlots R turned)) (ownerOf c) → Room d
   unfolding topSlots
   put-room c d shown put =
-      let one : length (topSlots R turned) ≡ suc (length turned) = insertAt-length (place 0 R turned) (slot 0 R) turned in
+      let one : length (topSlots R turned) ≡ suc (length turned) = insertAt-length (slotIndex 0 R turned) (slot 0 R) turned in
       let n : length (slotsOf d) ≡ length (topSlots R turned) = ap (λ (k : List Slot). length k) (put .1) ∙ length-map (topSlots R turned) slotFor in
       (put .0, omega (arith, one, n, top-room c shown, shown-length c turned shown))
 
@@ -177,7 +177,7 @@ module _ (b m : List ℕ) (r : Record) (q : Ready b m r) where
   sum-inserted : (f : model.Record → ℕ) → total f (listing (insert R (q .group))) ≡ f R + total f (records turned)
   unfolding topSlots
   sum-inserted f =
-      ap (total f) (sym (records-flat (insert R (q .group)))) ∙ ap (λ (k : List Placed). total f (records k)) (sym inserted) ∙ insert-total f (place 0 R turned) (slot 0 R) turned
+      ap (total f) (sym (records-flat (insert R (q .group)))) ∙ ap (λ (k : List Placed). total f (records k)) (sym inserted) ∙ insert-total f (slotIndex 0 R turned) (slot 0 R) turned
 
   held-inserted : (t : List ℕ) → slotsOf t ≡ map slotFor (topSlots R turned) → ((o : ℕ) → o < 256 → ownerOf t o ≡ weight o R + total (weight o) (records turned)) → Held t (insert R (q .group))
   held-inserted t slots owners = record {

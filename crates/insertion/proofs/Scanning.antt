@@ -17,7 +17,7 @@ use Rattle.group.specs.declared.Slot.{Slot}
 use Rattle.group.specs.Cutting.{Placed}
 use Rattle.group.specs.Held.{slotFor}
 use Rattle.group.specs.Answers as answers
-use Rattle.insertion.specs.Slots.{noSlot, standsBefore, place, meetsThere, meetsAt}
+use Rattle.insertion.specs.Slots.{noSlot, standsBefore, slotIndex, meetsThere, meetsAt}
 
 module _ (n start : ℕ) (s : Slot) (p : Placed) (x : model.Record) (is : s ≡ slotFor p) (at : start ≡ x .start) where
   -- a slot of the level stands before by its start, any other by its level
@@ -65,17 +65,17 @@ drop-out [] (suc i) h = refl
 drop-out (s ∷ l) zero h = absurd (omega arith)
 drop-out (s ∷ l) (suc i) h = drop-out l i (omega arith)
 
-place-more : (n : ℕ) (x : model.Record) (s : Placed) (l : List Placed) → standsBefore n x s ≡ true → place n x (s ∷ l) ≡ suc (place n x l)
-unfolding place
-place-more n x s l e = rw (e, place) refl
+place-more : (n : ℕ) (x : model.Record) (s : Placed) (l : List Placed) → standsBefore n x s ≡ true → slotIndex n x (s ∷ l) ≡ suc (slotIndex n x l)
+unfolding slotIndex
+place-more n x s l e = rw (e, slotIndex) refl
 
-place-stop : (n : ℕ) (x : model.Record) (s : Placed) (l : List Placed) → standsBefore n x s ≡ false → place n x (s ∷ l) ≡ 0
-unfolding place
-place-stop n x s l e = rw (e, place) refl
+place-stop : (n : ℕ) (x : model.Record) (s : Placed) (l : List Placed) → standsBefore n x s ≡ false → slotIndex n x (s ∷ l) ≡ 0
+unfolding slotIndex
+place-stop n x s l e = rw (e, slotIndex) refl
 
 -- the first i of the slots k stand before
 abbrev pub Passing : List Slot → ℕ → ℕ → ℕ → Type 0
-Passing k n start i = (l : List Placed) (x : model.Record) → k ≡ map slotFor l → start ≡ x .start → place n x l ≡ i + place n x (drop i l)
+Passing k n start i = (l : List Placed) (x : model.Record) → k ≡ map slotFor l → start ≡ x .start → slotIndex n x l ≡ i + slotIndex n x (drop i l)
 
 module _ (k : List Slot) (n start : ℕ) where
   pub pass-start : Passing k n start 0
@@ -87,22 +87,22 @@ module _ (k : List Slot) (n start : ℕ) where
       pass-turn y l x e f =
           let c = drop-cons l i noSlot (inside k l i e h) in
           let b : standsBefore n x (getD l i noSlot) ≡ true = sym (by (getD l i noSlot) x (slot-at k l i s e is) f) ∙ y in
-          let m : place n x (drop i l) ≡ suc (place n x (drop (suc i) l)) = ap (place n x) c ∙ place-more n x (getD l i noSlot) (drop (suc i) l) b in
+          let m : slotIndex n x (drop i l) ≡ suc (slotIndex n x (drop (suc i) l)) = ap (slotIndex n x) c ∙ place-more n x (getD l i noSlot) (drop (suc i) l) b in
           let d : drop (suc i) l ≡ drop (i + 1) l = ap (λ (j : ℕ). drop j l) (sym (add-one i)) in
-          let q : place n x (drop (suc i) l) ≡ place n x (drop (i + 1) l) = ap (place n x) d in
+          let q : slotIndex n x (drop (suc i) l) ≡ slotIndex n x (drop (i + 1) l) = ap (slotIndex n x) d in
           omega (arith, so l x e f, m, q)
 
-      pub pass-stop : t ≡ false → (l : List Placed) (x : model.Record) → k ≡ map slotFor l → start ≡ x .start → i ≡ place n x l
+      pub pass-stop : t ≡ false → (l : List Placed) (x : model.Record) → k ≡ map slotFor l → start ≡ x .start → i ≡ slotIndex n x l
       pass-stop y l x e f =
           let c = drop-cons l i noSlot (inside k l i e h) in
           let b : standsBefore n x (getD l i noSlot) ≡ false = sym (by (getD l i noSlot) x (slot-at k l i s e is) f) ∙ y in
-          let m : place n x (drop i l) ≡ 0 = ap (place n x) c ∙ place-stop n x (getD l i noSlot) (drop (suc i) l) b in
+          let m : slotIndex n x (drop i l) ≡ 0 = ap (slotIndex n x) c ∙ place-stop n x (getD l i noSlot) (drop (suc i) l) b in
           omega (arith, so l x e f, m)
 
-    pub pass-end : length k ≤ i → (l : List Placed) (x : model.Record) → k ≡ map slotFor l → start ≡ x .start → i ≡ place n x l
-    unfolding place
+    pub pass-end : length k ≤ i → (l : List Placed) (x : model.Record) → k ≡ map slotFor l → start ≡ x .start → i ≡ slotIndex n x l
+    unfolding slotIndex
     pass-end h l x e f =
-        let m : place n x (drop i l) ≡ 0 = ap (place n x) (drop-out l i (outside k l i e h)) in
+        let m : slotIndex n x (drop i l) ≡ 0 = ap (slotIndex n x) (drop-out l i (outside k l i e h)) in
         omega (arith, so l x e f, m)
 
 -- none of the first i of the slots k meets r

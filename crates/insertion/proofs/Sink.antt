@@ -13,7 +13,7 @@ use Rattle.model.specs.Levels.{Level, Group, meets, meetsAny, putAt, sink}
 use Rattle.group.specs.Cutting.{Placed, flatFrom, flat}
 use Rattle.insertion.specs.Flat.{tag}
 use Rattle.bytes.specs.Slots.{insertAt}
-use Rattle.insertion.specs.Slots.{slot, zeros, place, meetsThere, meetsAt, deepenFrom}
+use Rattle.insertion.specs.Slots.{slot, zeros, slotIndex, meetsThere, meetsAt, deepenFrom}
 use Rattle.insertion.specs.InsertSlots.{sinkSlots}
 use Rattle.insertion.proofs.Moves.{insertAt-length, insertAt-behind}
 use Rattle.insertion.proofs.FlatParts.{tag-length}
@@ -147,4 +147,4 @@ sink-length s l = go (meetsAt 1 s l) refl
   where
     go : (t : Bool) → meetsAt 1 s l ≡ t → length (sinkSlots s l) ≡ suc (length l)
     go true e = rw (e, sinkSlots) (insertAt-length (zeros l) (slot 1 s) (deepenFrom (zeros l) l) ∙ ap suc (deepen-length (zeros l) l))
-    go false e = rw (e, sinkSlots) (insertAt-length (place 1 s l) (slot 1 s) l)
+    go false e = rw (e, sinkSlots) (insertAt-length (slotIndex 1 s l) (slot 1 s) l)

@@ -23,7 +23,7 @@ use Rattle.group.specs.Answers as answers
 use Rattle.slots.specs.View.{Shows}
 use Rattle.slots.specs.Edits.{pushedDown, pushDownFrom}
 use Rattle.slots.proofs.Maps.{map-insertAt, map-removeAt}
-use Rattle.insertion.specs.Slots.{slot, noSlot, heldAt, records, zeros, standsBefore, place, meetsAt, deepenFrom}
+use Rattle.insertion.specs.Slots.{slot, noSlot, heldAt, records, zeros, standsBefore, slotIndex, meetsAt, deepenFrom}
 use Rattle.insertion.specs.InsertSlots.{sinkSlots, topSlots}
 use Rattle.insertion.specs.Shown.{Shown}
 use Rattle.insertion.proofs.ListWrites.{all-remove}
@@ -37,8 +37,8 @@ push-deepen zero (s ∷ l) = ap (λ (m : List Slot). pushedDown (slotFor s) ∷ 
 push-deepen (suc i) (s ∷ l) = ap (λ (m : List Slot). slotFor s ∷ m) (push-deepen i l)
 
 -- behind all records of level 0: the place of one that starts at 255
-pub place-zeros : (x : model.Record) (l : List Placed) → 255 ≡ x .start → all (soundRecord 256 0) (records l) ≡ true → place 0 x l ≡ zeros l
-unfolding place zeros standsBefore
+pub place-zeros : (x : model.Record) (l : List Placed) → 255 ≡ x .start → all (soundRecord 256 0) (records l) ≡ true → slotIndex 0 x l ≡ zeros l
+unfolding slotIndex zeros standsBefore
 place-zeros x [] e a = refl
 place-zeros x (s ∷ l) e a = go (eqb (s .level) 0) refl (place-zeros x l e (all-tail (soundRecord 256 0) (s .item) (records l) a))
   where
@@ -51,26 +51,26 @@ place-zeros x (s ∷ l) e a = go (eqb (s .level) 0) refl (place-zeros x l e (all
     below : (n : ℕ) → ltb n 0 ≡ false
     below n = let z : 0 ≤ n = omega arith in le-ltb n 0 z
 
-    go : (t : Bool) → eqb (s .level) 0 ≡ t → place 0 x l ≡ zeros l → place 0 x (s ∷ l) ≡ zeros (s ∷ l)
+    go : (t : Bool) → eqb (s .level) 0 ≡ t → slotIndex 0 x l ≡ zeros l → slotIndex 0 x (s ∷ l) ≡ zeros (s ∷ l)
     go true q ih =
         let b : standsBefore 0 x s ≡ true = rw (q, standsBefore, late) refl in
-        rw (b, place, q, zeros) (ap suc ih)
+        rw (b, slotIndex, q, zeros) (ap suc ih)
     go false q ih =
         let b : standsBefore 0 x s ≡ false = rw (q, standsBefore) (below (s .level)) in
-        rw (b, place, q, zeros) refl
+        rw (b, slotIndex, q, zeros) refl
 
 -- a record that starts at n
 abbrev startsAt : ℕ → model.Record
 startsAt n = record { start = n; span = 0; word = 0; intercept = noSlot .item .intercept; owned = [] }
 
 -- How many slots are of level 0.
-pub zeros-of : (b : List ℕ) (z : ℕ) → ((l : List Placed) (x : model.Record) → slotsOf b ≡ map slotFor l → 255 ≡ x .start → z ≡ place 0 x l)
+pub zeros-of : (b : List ℕ) (z : ℕ) → ((l : List Placed) (x : model.Record) → slotsOf b ≡ map slotFor l → 255 ≡ x .start → z ≡ slotIndex 0 x l)
     → (l : List Placed) → Shown b l → z ≡ zeros l
 zeros-of b z at l shown = at l (startsAt 255) (shown .slots) refl ∙ place-zeros (startsAt 255) l refl (shown .sound)
 
 module _ (b : List ℕ) (r : Record) (t : Bool) (meet : (l : List Placed) (L : List ℕ) → slotsOf b ≡ map slotFor l → t ≡ meetsAt 1 (asRecord r L) l) where
   -- A record that meets another of level 1 gets a new level.
-  pub sink-between : t ≡ true → (z : ℕ) → ((l : List Placed) (x : model.Record) → slotsOf b ≡ map slotFor l → 255 ≡ x .start → z ≡ place 0 x l)
+  pub sink-between : t ≡ true → (z : ℕ) → ((l : List Placed) (x : model.Record) → slotsOf b ≡ map slotFor l → 255 ≡ x .start → z ≡ slotIndex 0 x l)
       → (c d : List ℕ) → Shows c (pushDownFrom z (slotsOf b)) (ownerOf b) → Shows d (insertAt z (record { level = 1; held = r }) (slotsOf c)) (ownerOf c)
       → (l : List Placed) (L : List ℕ) → slotsOf b ≡ map slotFor l → all (soundRecord 256 0) (records l) ≡ true → Shows d (map slotFor (sinkSlots (asRecord r L) l)) (ownerOf b)
   unfolding sinkSlots
@@ -83,24 +83,24 @@ module _ (b : List ℕ) (r : Record) (t : Bool) (meet : (l : List Placed) (L : L
       (put .0, s ∙ ap (map slotFor) f, λ o h. put .2 o h ∙ pushed .2 o h)
 
   -- One that meets none goes into level 1.
-  pub sink-there : t ≡ false → (z : ℕ) → ((l : List Placed) (x : model.Record) → slotsOf b ≡ map slotFor l → r .start ≡ x .start → z ≡ place 1 x l)
+  pub sink-there : t ≡ false → (z : ℕ) → ((l : List Placed) (x : model.Record) → slotsOf b ≡ map slotFor l → r .start ≡ x .start → z ≡ slotIndex 1 x l)
       → (d : List ℕ) → Shows d (insertAt z (record { level = 1; held = r }) (slotsOf b)) (ownerOf b)
       → (l : List Placed) (L : List ℕ) → slotsOf b ≡ map slotFor l → all (soundRecord 256 0) (records l) ≡ true → Shows d (map slotFor (sinkSlots (asRecord r L) l)) (ownerOf b)
   unfolding sinkSlots
   sink-there y z at d put l L e a =
       let m : meetsAt 1 (asRecord r L) l ≡ false = sym (meet l L e) ∙ y in
-      let q : z ≡ place 1 (asRecord r L) l = at l (asRecord r L) e refl in
+      let q : z ≡ slotIndex 1 (asRecord r L) l = at l (asRecord r L) e refl in
       let s : slotsOf d ≡ map slotFor (insertAt z (slot 1 (asRecord r L)) l) = put .1 ∙ ap (insertAt z (record { level = 1; held = r })) e ∙ sym (map-insertAt slotFor z (slot 1 (asRecord r L)) l) in
       let f : insertAt z (slot 1 (asRecord r L)) l ≡ sinkSlots (asRecord r L) l = rw (m, sinkSlots, q) refl in
       (put .0, s ∙ ap (map slotFor) f, put .2)
 
 -- A record put at its place of level 0.
-pub top-put : (b : List ℕ) (r : Record) (z : ℕ) → ((l : List Placed) (x : model.Record) → slotsOf b ≡ map slotFor l → r .start ≡ x .start → z ≡ place 0 x l)
+pub top-put : (b : List ℕ) (r : Record) (z : ℕ) → ((l : List Placed) (x : model.Record) → slotsOf b ≡ map slotFor l → r .start ≡ x .start → z ≡ slotIndex 0 x l)
     → (d : List ℕ) → Shows d (insertAt z (record { level = 0; held = r }) (slotsOf b)) (ownerOf b)
     → (l : List Placed) (L : List ℕ) → slotsOf b ≡ map slotFor l → Shows d (map slotFor (topSlots (asRecord r L) l)) (ownerOf b)
 unfolding topSlots
 top-put b r z at d put l L e =
-    let q : z ≡ place 0 (asRecord r L) l = at l (asRecord r L) e refl in
+    let q : z ≡ slotIndex 0 (asRecord r L) l = at l (asRecord r L) e refl in
     let s : slotsOf d ≡ map slotFor (insertAt z (slot 0 (asRecord r L)) l) = put .1 ∙ ap (insertAt z (record { level = 0; held = r })) e ∙ sym (map-insertAt slotFor z (slot 0 (asRecord r L)) l) in
     (put .0, s ∙ ap (λ (j : ℕ). map slotFor (insertAt j (slot 0 (asRecord r L)) l)) q, put .2)
 

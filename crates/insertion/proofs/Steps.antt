@@ -18,7 +18,7 @@ use Rattle.group.specs.Held.{slotFor}
 use Rattle.group.specs.Answers as answers
 use Rattle.slots.specs.View.{Room, Shows}
 use Rattle.slots.proofs.Maps.{map-set, map-insertAt, map-removeAt}
-use Rattle.insertion.specs.Slots.{slot, noSlot, heldAt, records, zeros, place, meetsAt, deepenFrom}
+use Rattle.insertion.specs.Slots.{slot, noSlot, heldAt, records, zeros, slotIndex, meetsAt, deepenFrom}
 use Rattle.insertion.specs.InsertSlots.{renumber, settle, sinkSlots}
 use Rattle.insertion.specs.Shown.{weight, Shown}
 use Rattle.insertion.proofs.Moves.{removeAt-length}
@@ -67,7 +67,7 @@ sink-put f y s l h = go (meetsAt 1 s l) refl
   where
     go : (t : Bool) → meetsAt 1 s l ≡ t → f (records (sinkSlots s l)) ≡ y
     go true e = rw (e, sinkSlots) (ap f (map-insertAt (λ (p : Placed). p .item) (zeros l) (slot 1 s) (deepenFrom (zeros l) l) ∙ ap (insertAt (zeros l) s) (deepen-records (zeros l) l)) ∙ h (zeros l))
-    go false e = rw (e, sinkSlots) (ap f (map-insertAt (λ (p : Placed). p .item) (place 1 s l) (slot 1 s) l) ∙ h (place 1 s l))
+    go false e = rw (e, sinkSlots) (ap f (map-insertAt (λ (p : Placed). p .item) (slotIndex 1 s l) (slot 1 s) l) ∙ h (slotIndex 1 s l))
 
 module _ (b : List ℕ) (l : List Placed) (shown : Shown b l) where
   pub shown-length : length (slotsOf b) ≡ length l

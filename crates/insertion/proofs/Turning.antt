@@ -19,7 +19,7 @@ use Rattle.group.specs.Held.{slotFor}
 use Rattle.group.specs.Answers as answers
 use Rattle.slots.specs.Edits.{canGoDown}
 use Rattle.insertion.specs.Flat.{tag}
-use Rattle.insertion.specs.Slots.{slot, noSlot, heldAt, place}
+use Rattle.insertion.specs.Slots.{slot, noSlot, heldAt, slotIndex}
 use Rattle.insertion.specs.InsertSlots.{turn, turnNext}
 use Rattle.insertion.specs.Shown.{Shown, Tidy}
 use Rattle.insertion.proofs.FlatParts.{flat-held, flat-level, flat-inside}
@@ -62,7 +62,7 @@ pub record Turning (r : model.Record) (top : Level) (rest : Group) (t : List ℕ
   pub index : i ≡ length (stayers r done)
 
 module _ (r : model.Record) (top : Level) (rest : Group) where
-  pub turning-start : (t : List ℕ) (k : ℕ) → Shown t (flat (top ∷ rest)) → ((l : List Placed) (x : model.Record) → slotsOf t ≡ map slotFor l → 255 ≡ x .start → k ≡ place 0 x l)
+  pub turning-start : (t : List ℕ) (k : ℕ) → Shown t (flat (top ∷ rest)) → ((l : List Placed) (x : model.Record) → slotsOf t ≡ map slotFor l → 255 ≡ x .start → k ≡ slotIndex 0 x l)
       → Turning r top rest t k 0
   unfolding stayers sinkers sinkAll
   turning-start t k shown at = record { done = []; left = top; parts = refl; shown = shown; count = zeros-of t k at (flat (top ∷ rest)) shown ∙ zeros-flat top rest; index = refl }

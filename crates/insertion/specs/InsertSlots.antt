@@ -9,7 +9,7 @@ use Rattle.model.specs.Record.{Record, kind, isApproximate}
 use Rattle.model.specs.Levels.{shrink, Fate, stays, sinks, goes}
 use Rattle.group.specs.Cutting.{Placed}
 use Rattle.bytes.specs.Slots.{insertAt, removeAt}
-use Rattle.insertion.specs.Slots.{slot, zeros, place, meetsAt, deepenFrom, keepSlot}
+use Rattle.insertion.specs.Slots.{slot, zeros, slotIndex, meetsAt, deepenFrom, keepSlot}
 
 -- what is left of a slot's record: an approximate one gives up the offsets that pass the test
 unfoldable pub given : (ℕ → Bool) → Record → Option Record
@@ -31,7 +31,7 @@ settle o n (s ∷ l) = slot (renumber o n (s .level)) (s .item) ∷ settle (s .l
 
 -- s put at level 1 if it meets nothing there, otherwise on a new level 1 of its own
 unfoldable pub sinkSlots : Record → List Placed → List Placed
-sinkSlots s l = elim (meetsAt 1 s l) [ true ↦ insertAt (zeros l) (slot 1 s) (deepenFrom (zeros l) l) | false ↦ insertAt (place 1 s l) (slot 1 s) l ]
+sinkSlots s l = elim (meetsAt 1 s l) [ true ↦ insertAt (zeros l) (slot 1 s) (deepenFrom (zeros l) l) | false ↦ insertAt (slotIndex 1 s l) (slot 1 s) l ]
 
 -- the slots after slot i, of level 0, met its fate
 unfoldable pub turn : Fate → ℕ → List Placed → List Placed
@@ -47,4 +47,4 @@ turnNext goes i = i
 
 -- r put at its place of level 0
 unfoldable pub topSlots : Record → List Placed → List Placed
-topSlots r l = insertAt (place 0 r l) (slot 0 r) l
+topSlots r l = insertAt (slotIndex 0 r l) (slot 0 r) l

@@ -37,9 +37,9 @@ unfoldable pub standsBefore : ℕ → Record → Placed → Bool
 standsBefore n r s = elim (eqb (s .level) n) [ true ↦ not (ltb (r .start) (s .item .start)) | false ↦ ltb (s .level) n ]
 
 -- the index at which record r of level n goes: the first whose slot doesn't stand before it
-unfoldable pub place : ℕ → Record → List Placed → ℕ
-place n r [] = 0
-place n r (s ∷ l) = elim (standsBefore n r s) [ true ↦ suc (place n r l) | false ↦ 0 ]
+unfoldable pub slotIndex : ℕ → Record → List Placed → ℕ
+slotIndex n r [] = 0
+slotIndex n r (s ∷ l) = elim (standsBefore n r s) [ true ↦ suc (slotIndex n r l) | false ↦ 0 ]
 
 -- the slot is of level n and its record meets r
 unfoldable pub meetsThere : ℕ → Record → Placed → Bool

@@ -25,7 +25,7 @@ ghost use Rattle.slots.specs.Edits.{canGoDown};
 ghost use Rattle.bytes.specs.Slots.{removeAt};
 ghost use Rattle.group.specs.Answers as answers;
 ghost use Rattle.model.specs.Device.{groupLength};
-ghost use Rattle.insertion.specs.Slots.{noSlot, heldAt, records, standsBefore, place, meetsThere, meetsAt, keepAt, keepNext};
+ghost use Rattle.insertion.specs.Slots.{noSlot, heldAt, records, standsBefore, slotIndex, meetsThere, meetsAt, keepAt, keepNext};
 ghost use Rattle.insertion.specs.InsertSlots.{given, giveUpSlots, sinkSlots, turn, turnNext, topSlots};
 ghost use Rattle.insertion.specs.Shown.{Shown, Tidy};
 ghost use Rattle.insertion.specs.Ready.{Masks, Parted, Ready};
@@ -44,7 +44,7 @@ fn before(s: Slot, n: u32, start: u32) -> bool
 // The index at which a record of level n that starts at `start` goes.
 fn place_of(b: &[u8], n: u32, start: u32) -> u32
     requires { ⌜ Room (now b) ⌝ }
-    ensures { λ r. ⌜ (r ≤ length (slotsOf (now (b .entry)))) × ((l : List Placed) (x : model.Record) → slotsOf (now (b .entry)) ≡ map slotFor l → start ≡ x .start → r ≡ place n x l) ⌝ }
+    ensures { λ r. ⌜ (r ≤ length (slotsOf (now (b .entry)))) × ((l : List Placed) (x : model.Record) → slotsOf (now (b .entry)) ≡ map slotFor l → start ≡ x .start → r ≡ slotIndex n x l) ⌝ }
 {
     let k = slots::used(b);
     let mut i = 0;

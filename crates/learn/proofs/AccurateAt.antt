@@ -11,7 +11,7 @@ use Rattle.model.specs.Lists.{ascending}
 use Rattle.model.specs.Learning.{Bounds, Run, strideLength, accurateRun}
 use Rattle.record.specs.declared.Record.{Record}
 use Rattle.record.specs.Read.{bare}
-use Rattle.learn.specs.Runs.{aheadOf, behind, accurateAt}
+use Rattle.learn.specs.Runs.{aheadOf, offsetsBehind, accurateAt}
 use Rattle.learn.proofs.AheadOf.{Goes}
 use Rattle.learn.proofs.Ascent.{rises}
 use Rattle.learn.proofs.Differences.{less-zero}
@@ -47,17 +47,17 @@ module _ (b : Bounds) (w : List ℕ) (i : ℕ) (z : ℤ) where
 
   pub single-at : aheadOf w (x / 256) (i + 1) ≡ [] → z ≡ subℕ (b .first + i) 0
       → Matches (record { start = x % 256; span = 0; word = 0; intercept = z }) 1 (accurateAt b w i)
-  unfolding accurateAt behind
+  unfolding accurateAt offsetsBehind
   single-at e h = rw e (one _ _ _ z h)
 
   module _ (asc : ascending w ≡ true) (g : Goes w (x / 256) (i + 1)) where
     abbrev d : ℕ
     d = getD w (i + 1) 0 - x
 
-    pub strided-at : (e : ℕ) → e ≡ i + 1 + strideLength d (getD w (i + 1) 0 % 256) (behind w (i + 1))
+    pub strided-at : (e : ℕ) → e ≡ i + 1 + strideLength d (getD w (i + 1) 0 % 256) (offsetsBehind w (i + 1))
         → z ≡ subℕ (b .first + i) ((x % 256 + (d - 1)) / d)
         → Matches (record { start = x % 256; span = (e - i) * d; word = 2 * d; intercept = z }) (e - i + 1) (accurateAt b w i)
-    unfolding accurateAt behind
+    unfolding accurateAt offsetsBehind
     strided-at e f h =
         let u : x < getD w (i + 1) 0 = rises w i (i + 1) asc (omega arith) (g .inside) in
         let q : getD w (i + 1) 0 % 256 - x % 256 ≡ d = omega (arith, g .group) in

@@ -11,7 +11,7 @@ use lib.Seq.{drop-cons, drop-drop}
 use borrow.Author.Tests.{ltb-true, ltb-false, eqb-true, eqb-false, eq-eqb, ne-eqb}
 use Rattle.model.specs.Learning.{ahead}
 use Rattle.model.specs.Sound.{isEmpty}
-use Rattle.learn.specs.Runs.{aheadOf, behind}
+use Rattle.learn.specs.Runs.{aheadOf, offsetsBehind}
 
 -- a page of group k stands at place j, its offset ahead of the others
 pub record Goes (w : List ℕ) (k j : ℕ) : Type 0 where
@@ -110,8 +110,8 @@ ahead-at w k j (suc n) h =
     rw (e, g .is) (ahead-at w k (j + 1) n (omega arith))
 
 -- the same of a place's own page and those behind it
-pub behind-at : (w : List ℕ) (i n : ℕ) → n ≤ length (behind w i)
-    → (getD (getD w i 0 % 256 ∷ behind w i) n 0 ≡ getD w (i + n) 0 % 256) × (getD w (i + n) 0 / 256 ≡ getD w i 0 / 256)
-unfolding behind
+pub behind-at : (w : List ℕ) (i n : ℕ) → n ≤ length (offsetsBehind w i)
+    → (getD (getD w i 0 % 256 ∷ offsetsBehind w i) n 0 ≡ getD w (i + n) 0 % 256) × (getD w (i + n) 0 / 256 ≡ getD w i 0 / 256)
+unfolding offsetsBehind
 behind-at w i zero h = let e : i + 0 ≡ i = omega arith in rw e (refl, refl)
 behind-at w i (suc n) h = let e : i + suc n ≡ i + 1 + n = omega arith in rw e (ahead-at w (getD w i 0 / 256) (i + 1) n (omega arith))

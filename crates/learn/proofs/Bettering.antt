@@ -9,7 +9,7 @@ use lib.ListN.{getD}
 use borrow.Author.Tests.{ltb-true, ltb-false}
 use Rattle.model.specs.Learning.{Bounds, Intercepts, Fit, suiting, common, longer, extend, fit, better}
 use Rattle.model.proofs.Approximation.{Among, Fitting}
-use Rattle.learn.specs.Runs.{behind, fitAt}
+use Rattle.learn.specs.Runs.{offsetsBehind, fitAt}
 use Rattle.learn.proofs.AheadOf.{behind-at}
 use Rattle.learn.proofs.Fits.{better-first, better-second}
 use Rattle.learn.proofs.Searching.{fit-is}
@@ -37,7 +37,7 @@ module _ (b : Bounds) (w : List ℕ) (i a : ℕ) (on : b .first + i ≤ b .last)
 
   suits : (n : ℕ) → n < fitAt b w i a .size → Among (suiting b a (getD w (i + n) 0 % 256) (b .first + (i + n))) (fitAt b w i a .least)
   suits n h =
-      let f : Fitting b (b .first + i) (getD w i 0 % 256 ∷ behind w i) (fitAt b w i a) = fit-is b w i on a le in
+      let f : Fitting b (b .first + i) (getD w i 0 % 256 ∷ offsetsBehind w i) (fitAt b w i a) = fit-is b w i on a le in
       let p : b .first + i + n ≡ b .first + (i + n) = omega arith in
       let o = behind-at w i n (omega (arith, f .inside)) .0 in
       rw (slope-is, o, p) at (f .suits n h)

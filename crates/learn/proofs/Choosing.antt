@@ -13,7 +13,7 @@ use Rattle.model.specs.Learning.{Bounds, Fit, Run, suiting, better, approximate
 use Rattle.model.proofs.Parts.{last-take}
 use Rattle.model.proofs.Approximation.{Fitting}
 use Rattle.record.specs.Read.{bare}
-use Rattle.learn.specs.Runs.{aheadOf, behind, bestAt, accurateAt, fitRecord, runAt}
+use Rattle.learn.specs.Runs.{aheadOf, offsetsBehind, bestAt, accurateAt, fitRecord, runAt}
 use Rattle.learn.proofs.AheadOf.{ahead-inside, behind-at}
 use Rattle.learn.proofs.Ascent.{rises}
 use Rattle.learn.proofs.Fits.{better-first, better-second}
@@ -57,7 +57,7 @@ module _ (b : Bounds) (w : List ℕ) (i : ℕ) where
   takes-exact e = rw (eq-eqb (b .g) 0 e, nextRun)
 
   module _ (some : b .g ≡ 0 → ⊥) where
-    by-length : runAt b w i ≡ longerRun (accurateAt b w i) (approximateRun b (x / 256) (b .first + i) (x % 256) (behind w i))
+    by-length : runAt b w i ≡ longerRun (accurateAt b w i) (approximateRun b (x / 256) (b .first + i) (x % 256) (offsetsBehind w i))
     unfolding accurateAt runAt nextRun
     by-length = rw (ne-eqb (b .g) 0 some, nextRun)
 
@@ -65,17 +65,17 @@ module _ (b : Bounds) (w : List ℕ) (i : ℕ) where
     unfolding longerRun bestAt approximateRun
     takes-accurate h = sym (by-length ∙ rw (le-ltb _ _ h, longerRun))
 
-    takes-approximate : accurateAt b w i .taken < bestAt b w i .size → approximateRun b (x / 256) (b .first + i) (x % 256) (behind w i) ≡ runAt b w i
+    takes-approximate : accurateAt b w i .taken < bestAt b w i .size → approximateRun b (x / 256) (b .first + i) (x % 256) (offsetsBehind w i) ≡ runAt b w i
     unfolding longerRun bestAt approximateRun
     takes-approximate h = sym (by-length ∙ rw (lt-ltb _ _ h, longerRun))
 
-  record-is : (f : Fit) → 1 ≤ f .size → f .size ≤ length (x % 256 ∷ behind w i)
-      → fitRecord w i f ≡ bare (approximateRecord f (x % 256) (take (f .size - 1) (behind w i)))
+  record-is : (f : Fit) → 1 ≤ f .size → f .size ≤ length (x % 256 ∷ offsetsBehind w i)
+      → fitRecord w i f ≡ bare (approximateRecord f (x % 256) (take (f .size - 1) (offsetsBehind w i)))
   unfolding fitRecord approximateRecord
   record-is f h k =
       let e : i + f .size - 1 ≡ i + (f .size - 1) = omega arith in
-      let q : f .size - 1 ≤ length (behind w i) = omega arith in
-      rw (e, last-take (f .size - 1) (x % 256) (behind w i) q, behind-at w i (f .size - 1) q .0)
+      let q : f .size - 1 ≤ length (offsetsBehind w i) = omega arith in
+      rw (e, last-take (f .size - 1) (x % 256) (offsetsBehind w i) q, behind-at w i (f .size - 1) q .0)
 
   pub record Usable (f : Fit) : Type 0 where
     pub room : i + f .size ≤ length w
@@ -85,7 +85,7 @@ module _ (b : Bounds) (w : List ℕ) (i : ℕ) where
     pub least : f .least ≤ b .last + 256
 
   module _ (asc : ascending w ≡ true) (here : i < length w) (u : b .first + i ≤ b .last) where
-    rising : (n : ℕ) → n ≤ length (behind w i) → i + n < length w → x % 256 ≤ getD w (i + n) 0 % 256
+    rising : (n : ℕ) → n ≤ length (offsetsBehind w i) → i + n < length w → x % 256 ≤ getD w (i + n) 0 % 256
     rising zero h k = let e : i + 0 ≡ i = omega arith in rw e (omega arith)
     rising (suc n) h k = omega (arith, rises w i (i + suc n) asc (omega arith) k, behind-at w i (suc n) h .1)
 
@@ -95,9 +95,9 @@ module _ (b : Bounds) (w : List ℕ) (i : ℕ) where
 
     -- the best fit makes a record
     usable : Usable (bestAt b w i)
-    unfolding behind
+    unfolding offsetsBehind
     usable =
-        let f : Fitting b (b .first + i) (x % 256 ∷ behind w i) (bestAt b w i) = best-is b w i u in
+        let f : Fitting b (b .first + i) (x % 256 ∷ offsetsBehind w i) (bestAt b w i) = best-is b w i u in
         let n : ℕ = bestAt b w i .size - 1 in
         let m : length (aheadOf w (x / 256) (i + 1)) ≤ length w - (i + 1) = ahead-inside w (x / 256) (i + 1) (omega arith) in
         let e : i + bestAt b w i .size - 1 ≡ i + (bestAt b w i .size - 1) = omega (arith, f .filled) in

@@ -8,7 +8,7 @@ use lib.Dec.{leb}
 use lib.ListN.{getD}
 use borrow.Author.Tests.{le-leb, lt-leb}
 use Rattle.model.specs.Learning.{Bounds, Intercepts, Fit, suiting, common, longer, extend, fit}
-use Rattle.learn.specs.Runs.{aheadOf, behind, fitAt}
+use Rattle.learn.specs.Runs.{aheadOf, offsetsBehind, fitAt}
 use Rattle.learn.proofs.AheadOf.{Goes}
 
 -- a fit with n pages before it
@@ -44,7 +44,7 @@ module _ (b : Bounds) (a : ℕ) (w : List ℕ) (k i : ℕ) where
   reached m j = after (j - i) (extend b a m (b .first + j) (aheadOf w k j))
 
   pub reach-starts : getD w i 0 / 256 ≡ k → (s : Intercepts) → s ≡ suiting b a (getD w i 0 % 256) (b .first + i) → fitAt b w i a ≡ reached s (i + 1)
-  unfolding reached fitAt behind fit
+  unfolding reached fitAt offsetsBehind fit
   reach-starts e s q =
       let p : suc (b .first + i) ≡ b .first + (i + 1) = omega arith in
       let n : i + 1 - i ≡ 1 = omega arith in

@@ -20,7 +20,7 @@ use Rattle.model.proofs.Parts.{asc-drop}
 use Rattle.model.proofs.Runs.{Part, runs-parted}
 use Rattle.record.specs.Read.{bare}
 use Rattle.record.specs.Coding.{InEight}
-use Rattle.learn.specs.Runs.{aheadOf, behind, runAt}
+use Rattle.learn.specs.Runs.{aheadOf, offsetsBehind, runAt}
 
 pub sound-stride : (d : ℕ) (r : Record) → soundAs (accurate d) r ≡ true → d ≤ 255
 unfolding soundAs
@@ -55,7 +55,7 @@ part-held b p l r c = record {
 
 -- The run at a place of the batch.
 pub held : (b : Bounds) (w : List ℕ) (i : ℕ) → i < length w → ascending w ≡ true → b .last + 1 ≡ b .first + length w → Held (length w - i) (runAt b w i)
-unfolding runs runAt behind aheadOf
+unfolding runs runAt offsetsBehind aheadOf
 held b w i h a e =
     let q : drop i w ≡ getD w i 0 ∷ drop (i + 1) w = drop-cons w i 0 h ∙ rw (add-one i) in
     let m : length (getD w i 0 ∷ drop (i + 1) w) ≡ length w - i = ap length (sym q) ∙ length-drop i w in

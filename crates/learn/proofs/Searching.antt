@@ -6,7 +6,7 @@ use native.Mathlib.Omega.{arith}
 use lib.ListN.{length, getD}
 use Rattle.model.specs.Learning.{Bounds, Fit, fit, better, bestFit}
 use Rattle.model.proofs.Approximation.{Fitting, best-fitting}
-use Rattle.learn.specs.Runs.{behind, fitAt, bestAt, aheadOf}
+use Rattle.learn.specs.Runs.{offsetsBehind, fitAt, bestAt, aheadOf}
 use Rattle.learn.proofs.Fits.{better-first, better-assoc, better-within}
 use Rattle.learn.proofs.AheadOf.{ahead-few, ahead-inside}
 
@@ -33,7 +33,7 @@ module _ (b : Bounds) (p x : ℕ) (l : List ℕ) where
 -- The slopes from a on, at place i of a batch.
 module _ (b : Bounds) (w : List ℕ) (i : ℕ) where
   unfoldable pub from : Fit → ℕ → Fit
-  from f a = left b (b .first + i) (getD w i 0 % 256) (behind w i) f (257 - a)
+  from f a = left b (b .first + i) (getD w i 0 % 256) (offsetsBehind w i) f (257 - a)
 
   pub from-start : (f : Fit) → better f (bestAt b w i) ≡ from f 0
   unfolding from left bestAt
@@ -45,7 +45,7 @@ module _ (b : Bounds) (w : List ℕ) (i : ℕ) where
       let e : 257 - a ≡ suc (256 - a) = omega arith in
       let q : 257 - (a + 1) ≡ 256 - a = omega arith in
       let s : 256 - (256 - a) ≡ a = omega arith in
-      rw (e, q) (rw s at (left-next b (b .first + i) (getD w i 0 % 256) (behind w i) f (256 - a) (omega arith)))
+      rw (e, q) (rw s at (left-next b (b .first + i) (getD w i 0 % 256) (offsetsBehind w i) f (256 - a) (omega arith)))
 
   pub from-end : (f : Fit) (a : ℕ) → 256 < a → from f a ≡ f
   unfolding from left
@@ -54,26 +54,26 @@ module _ (b : Bounds) (w : List ℕ) (i : ℕ) where
   module _ (u : b .first + i ≤ b .last) where
     -- none of the group's pages is left behind the fit's
     pub from-full : (f : Fit) (a : ℕ) → 1 ≤ f .size → aheadOf w (getD w i 0 / 256) (i + f .size) ≡ [] → from f a ≡ f
-    unfolding from behind
+    unfolding from offsetsBehind
     from-full f a k e =
         let n : length (aheadOf w (getD w i 0 / 256) (i + 1)) ≤ i + f .size - (i + 1) = ahead-few w _ (i + 1) (i + f .size) (omega arith) e in
         left-done b _ _ _ f (257 - a) (omega arith) (omega arith) u (omega arith)
 
     -- what the best of all slopes is to the pages
-    pub best-is : Fitting b (b .first + i) (getD w i 0 % 256 ∷ behind w i) (bestAt b w i)
+    pub best-is : Fitting b (b .first + i) (getD w i 0 % 256 ∷ offsetsBehind w i) (bestAt b w i)
     unfolding bestAt
     best-is = best-fitting b _ _ _ 0 256 (omega arith) (omega arith) u
 
     -- and what one slope's is
-    pub fit-is : (a : ℕ) → a ≤ 256 → Fitting b (b .first + i) (getD w i 0 % 256 ∷ behind w i) (fitAt b w i a)
+    pub fit-is : (a : ℕ) → a ≤ 256 → Fitting b (b .first + i) (getD w i 0 % 256 ∷ offsetsBehind w i) (fitAt b w i a)
     unfolding fitAt bestFit
     fit-is a h = best-fitting b _ _ _ a 0 (omega arith) (omega arith) u
 
     -- a fit takes a page, and no more than there are
     fit-inside : (a : ℕ) → a ≤ 256 → i < length w → (1 ≤ fitAt b w i a .size) × (fitAt b w i a .size ≤ length w)
-    unfolding behind
+    unfolding offsetsBehind
     fit-inside a h k =
-        let f : Fitting b (b .first + i) (getD w i 0 % 256 ∷ behind w i) (fitAt b w i a) = fit-is a h in
+        let f : Fitting b (b .first + i) (getD w i 0 % 256 ∷ offsetsBehind w i) (fitAt b w i a) = fit-is a h in
         (f .filled, omega (arith, f .inside, ahead-inside w (getD w i 0 / 256) (i + 1) (omega arith)))
 
     -- the search goes on with the better of f and slope a's fit

@@ -11,7 +11,7 @@ use Rattle.model.specs.Learning.{Bounds, Run, runs}
 use Rattle.model.proofs.Lists.{store-nil, store-first}
 use Rattle.record.specs.declared.Record.{Record}
 use Rattle.record.specs.Read.{bare}
-use Rattle.learn.specs.Runs.{aheadOf, behind, runAt, records, counts}
+use Rattle.learn.specs.Runs.{aheadOf, offsetsBehind, runAt, records, counts}
 
 module _ (b : Bounds) (w : List ℕ) where
   -- the runs that are left at place i, behind n runs
@@ -35,7 +35,7 @@ module _ (b : Bounds) (w : List ℕ) where
 
   module _ (i : ℕ) (h : i < length w) where
     pub rest-next : (n : ℕ) → n < length w → 1 ≤ runAt b w i .taken → rest i n ≡ runAt b w i ∷ rest (i + runAt b w i .taken) (n + 1)
-    unfolding rest runs runAt behind aheadOf
+    unfolding rest runs runAt offsetsBehind aheadOf
     rest-next n k f =
         let q : drop i w ≡ getD w i 0 ∷ drop (i + 1) w = drop-cons w i 0 h ∙ rw (add-one i) in
         let m : length w - n ≡ suc (length w - (n + 1)) = omega arith in

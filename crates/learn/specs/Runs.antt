@@ -37,24 +37,24 @@ unfoldable pub aheadOf : List ℕ → ℕ → ℕ → List ℕ
 aheadOf w k j = ahead k (drop j w)
 
 -- the offsets behind place i, in its page's group
-unfoldable pub behind : List ℕ → ℕ → List ℕ
+unfoldable pub offsetsBehind : List ℕ → ℕ → List ℕ
 unfolding aheadOf
-behind w i = aheadOf w (pageAt w i / 256) (i + 1)
+offsetsBehind w i = aheadOf w (pageAt w i / 256) (i + 1)
 
 -- the longest run of slope a from place i on
 unfoldable pub fitAt : model.Bounds → List ℕ → ℕ → ℕ → model.Fit
-unfolding behind
-fitAt b w i a = fit b a (b .first + i) (pageAt w i % 256) (behind w i)
+unfolding offsetsBehind
+fitAt b w i a = fit b a (b .first + i) (pageAt w i % 256) (offsetsBehind w i)
 
 -- the best of all slopes from place i on
 unfoldable pub bestAt : model.Bounds → List ℕ → ℕ → model.Fit
-unfolding behind
-bestAt b w i = bestFit b (b .first + i) (pageAt w i % 256 ∷ behind w i) 0 256
+unfolding offsetsBehind
+bestAt b w i = bestFit b (b .first + i) (pageAt w i % 256 ∷ offsetsBehind w i) 0 256
 
 -- the accurate run from place i on
 unfoldable pub accurateAt : model.Bounds → List ℕ → ℕ → model.Run
-unfolding behind
-accurateAt b w i = accurateRun (pageAt w i / 256) (b .first + i) (pageAt w i % 256) (behind w i)
+unfolding offsetsBehind
+accurateAt b w i = accurateRun (pageAt w i / 256) (b .first + i) (pageAt w i % 256) (offsetsBehind w i)
 
 -- the record of a fit from place i on
 unfoldable pub fitRecord : List ℕ → ℕ → model.Fit → Record
@@ -67,8 +67,8 @@ fitRecord w i f = record {
 
 -- the run at place i
 unfoldable pub runAt : model.Bounds → List ℕ → ℕ → model.Run
-unfolding behind
-runAt b w i = nextRun b (pageAt w i / 256) (b .first + i) (pageAt w i % 256) (behind w i)
+unfolding offsetsBehind
+runAt b w i = nextRun b (pageAt w i / 256) (b .first + i) (pageAt w i % 256) (offsetsBehind w i)
 
 -- the bounds of a batch that ascends: small enough for the code's numbers
 pub record Small (b : Bounds) (w : List ℕ) : Type 0 where

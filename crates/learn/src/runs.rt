@@ -9,7 +9,7 @@ ghost use Rattle.model.specs.Lists.{ascending, store};
 ghost use Rattle.model.specs.Learning.{strideLength, suiting, common, better, learn};
 ghost use Rattle.model.specs.Sound.{isEmpty};
 ghost use Rattle.model.specs.Demand2.{boundsOf};
-ghost use Rattle.learn.specs.Runs.{asBounds, asIntercepts, asFit, IsRun, pageAt, aheadOf, behind, fitAt, bestAt, accurateAt, fitRecord, runAt, Small, Batch, records, counts};
+ghost use Rattle.learn.specs.Runs.{asBounds, asIntercepts, asFit, IsRun, pageAt, aheadOf, offsetsBehind, fitAt, bestAt, accurateAt, fitRecord, runAt, Small, Batch, records, counts};
 
 // What predictions keep to: within g of the page, from the flush's first page to its last.
 struct Bounds {
@@ -58,7 +58,7 @@ fn ended(written: &[u32], j: usize, k: u32) -> bool
 // The last place of the pages that go on from place i at stride d, in its group.
 fn stride_end(written: &[u32], i: usize, d: u32) -> usize
     requires { ⌜ (i < length (now written)) × (ascending (now written) ≡ true) ⌝ }
-    ensures { λ r. ⌜ (r ≡ i + strideLength d (pageAt (now (written .entry)) i % 256) (behind (now (written .entry)) i)) × (r < length (now (written .entry))) ⌝ }
+    ensures { λ r. ⌜ (r ≡ i + strideLength d (pageAt (now (written .entry)) i % 256) (offsetsBehind (now (written .entry)) i)) × (r < length (now (written .entry))) ⌝ }
 {
     let k = written[i] / 256;
     let mut j = i;

@@ -31,9 +31,9 @@ module _ (b : List ℕ) where
   unfolding isSound
   other-length f = rw (ne-eqb (length b) groupLength f)
 
-  pub right-length : length b ≡ groupLength → (t : Bool) → t ≡ soundGroup 256 0 (readGroup b) → t ≡ isSound b
+  pub right-size : length b ≡ groupLength → (t : Bool) → t ≡ soundGroup 256 0 (readGroup b) → t ≡ isSound b
   unfolding isSound
-  right-length e t h = rw (eq-eqb (length b) groupLength e) h
+  right-size e t h = rw (eq-eqb (length b) groupLength e) h
 
   -- What a sound group's bytes are.
   pub size : isSound b ≡ true → length b ≡ groupLength

@@ -5,7 +5,7 @@ use native.Mathlib.Omega.{arith}
 use lib.ListN.{length, getD}
 use borrow.Author.Needs.{needs}
 use borrow.Author.Tests.{not-true, not-false}
-use Rattle.learn.specs.Runs.{behind}
+use Rattle.learn.specs.Runs.{offsetsBehind}
 use Rattle.learn.proofs.AheadOf.{Goes, ahead-some, ahead-none}
 use Rattle.learn.proofs.Strides.{onward, stride-ends, stride-goes, stride-breaks}
 use Rattle.learn.proofs.runs.stride_end.Statement.{statement}
@@ -28,7 +28,7 @@ sub-if2 : tie.Need-sub-if2 Inv-loop μ-loop
 sub-if2 c = omega (arith, rises _ _ (c .before .before .before .before .loop .j + 1) (c .before .before .before .before .before .before .before .pre .1) (let q : c .before .before .before .before .loop .j < c .before .before .before .before .loop .j + 1 = omega arith in q) (goes (c .before .before) .inside))
 
 returns : tie.Need-returns Inv-loop μ-loop
-unfolding behind
+unfolding offsetsBehind
 returns c =
     let v = c .before .before .before .before .before .loop .inv in
     let e = stride-breaks _ _ _ _ (c .before .before .before .before .before .before .before .before .pre .1) (v .2) (goes (c .before .before .before)) (c .if2 .taken) in
@@ -42,7 +42,7 @@ loop-again c =
     (omega arith, g .inside, g .group, omega (arith, v .0, v .3, e))
 
 returns-2 : tie.Need-returns-2 Inv-loop μ-loop
-unfolding behind
+unfolding offsetsBehind
 returns-2 c =
     let v = c .before .before .loop .inv in
     let w = c .before .before .before .before .before .args .written .now in
