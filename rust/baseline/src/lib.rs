@@ -17,6 +17,8 @@
 pub mod device;
 pub mod group;
 pub mod learn;
+mod neighbours;
 pub mod offsets;
 pub mod record;
 pub mod sort;
+mod stride;

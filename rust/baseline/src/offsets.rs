@@ -1,21 +1,22 @@
 //! A set of offsets of a group, one bit each.
 
-use std::ops::{BitAnd, BitOr, Not};
+use std::ops::{BitAnd, BitOr};
 
-/// A set of offsets, 0 to 255: those below 128, then the others.
-#[derive(Clone, Copy, Debug, Default, PartialEq, Eq)]
-pub struct Offsets([u128; 2]);
+/// A set of offsets, 0 to 255, 64 to a word.
+#[derive(Clone, Copy, Debug, Default, Eq)]
+pub struct Offsets([u64; 4]);
 
-/// For each stride, its multiples: a division less in loops over records.
-static MULTIPLES: [Offsets; 256] = multiples();
+/// For each stride its multiples, behind as many empty words: moving them up by
+/// whole words is reading from an earlier place.
+static MULTIPLES: [[u64; 8]; 256] = multiples();
 
-const fn multiples() -> [Offsets; 256] {
-    let mut table = [Offsets([1, 0]); 256];
+const fn multiples() -> [[u64; 8]; 256] {
+    let mut table = [[0, 0, 0, 0, 1, 0, 0, 0]; 256];
     let mut stride = 1;
     while stride < 256 {
         let mut offset = stride;
         while offset < 256 {
-            table[stride].0[offset / 128] |= 1 << (offset % 128);
+            table[stride][4 + offset / 64] |= 1 << (offset % 64);
             offset += stride;
         }
         stride += 1;
@@ -23,86 +24,121 @@ const fn multiples() -> [Offsets; 256] {
     table
 }
 
+/// For each number the offsets below it.
+static BELOW: [Offsets; 257] = below();
+
+const fn below() -> [Offsets; 257] {
+    let mut table = [Offsets([0; 4]); 257];
+    let mut number = 1;
+    while number <= 256 {
+        table[number] = table[number - 1];
+        table[number].0[(number - 1) / 64] |= 1 << ((number - 1) % 64);
+        number += 1;
+    }
+    table
+}
+
 impl Offsets {
     /// No offset.
-    pub const NONE: Offsets = Offsets([0; 2]);
+    pub const NONE: Offsets = Offsets([0; 4]);
 
-    /// The multiples of a stride; 0 alone for stride 0.
-    #[inline]
-    pub fn multiples(stride: u8) -> &'static Offsets {
-        &MULTIPLES[usize::from(stride)]
-    }
+    /// All offsets.
+    pub const ALL: Offsets = Offsets([u64::MAX; 4]);
 
     /// `start`, `start + stride`, .. up to `last`, which is not below `start`;
     /// `start` alone for stride 0.
     #[inline]
     pub fn strided(start: u8, last: u8, stride: u8) -> Offsets {
-        Offsets::multiples(stride).moved_up(start) & Offsets::up_to(last)
+        let words = &MULTIPLES[usize::from(stride)];
+        let at = 4 - usize::from(start / 64);
+        let bits = start % 64;
+        // What leaves a word goes into the next, also where nothing moves.
+        let moved = |k: usize| words[at + k] << bits | (words[at + k - 1] >> 1) >> (63 - bits);
+        Offsets(std::array::from_fn(moved)) & Offsets::up_to(last)
+    }
+
+    /// All offsets from `start` to `last`.
+    #[inline]
+    pub fn range(start: u8, last: u8) -> Offsets {
+        Offsets::up_to(last).without(BELOW[usize::from(start)])
+    }
+
+    /// Whether the sets have an offset in common.
+    #[inline]
+    pub fn meets(&self, other: &Offsets) -> bool {
+        !(*self & *other).is_empty()
     }
 
     /// All offsets up to `last`.
     #[inline]
     fn up_to(last: u8) -> Offsets {
-        let full = u128::MAX >> (127 - last % 128);
-        match last < 128 {
-            true => Offsets([full, 0]),
-            false => Offsets([u128::MAX, full]),
-        }
+        BELOW[usize::from(last) + 1]
     }
 
-    /// Each offset raised by `by`; those above 255 are lost.
+    /// The set of these bits.
     #[inline]
-    fn moved_up(self, by: u8) -> Offsets {
-        let Offsets([low, high]) = self;
-        let bits = by % 128;
-        // What leaves the low half, also where nothing moves.
-        let carried = (low >> 1) >> (127 - bits);
-        match by < 128 {
-            true => Offsets([low << bits, high << bits | carried]),
-            false => Offsets([0, low << bits]),
-        }
+    pub fn from_words(words: [u64; 4]) -> Offsets {
+        Offsets(words)
     }
 
     /// Puts an offset into the set.
     #[inline]
     pub fn insert(&mut self, offset: u8) {
-        self.0[usize::from(offset / 128)] |= 1 << (offset % 128);
+        self.0[usize::from(offset / 64)] |= 1 << (offset % 64);
+    }
+
+    /// Takes an offset out of the set.
+    #[inline]
+    pub fn remove(&mut self, offset: u8) {
+        self.0[usize::from(offset / 64)] &= !(1 << (offset % 64));
     }
 
     /// Whether the set has an offset.
     #[inline]
     pub fn contains(&self, offset: u8) -> bool {
-        self.0[usize::from(offset / 128)] >> (offset % 128) & 1 == 1
+        self.0[usize::from(offset / 64)] >> (offset % 64) & 1 == 1
+    }
+
+    /// The set, or none where the condition fails; without a branch.
+    #[inline]
+    pub fn only_if(self, condition: bool) -> Offsets {
+        let mask = u64::from(condition).wrapping_neg();
+        Offsets(self.0.map(|word| word & mask))
     }
 
     /// Whether the set has no offset.
     #[inline]
     pub fn is_empty(&self) -> bool {
-        *self == Offsets::NONE
+        let [a, b, c, d] = self.0;
+        a | b | c | d == 0
+    }
+
+    /// The offsets that are not in another set.
+    #[inline]
+    pub fn without(self, other: Offsets) -> Offsets {
+        Offsets(std::array::from_fn(|k| self.0[k] & !other.0[k]))
     }
 
     /// The first and last offset, if there is one.
     #[inline]
     pub fn ends(&self) -> Option<(u8, u8)> {
-        let Offsets([low, high]) = *self;
-        if self.is_empty() {
+        let Offsets([a, b, c, d]) = *self;
+        if a | b | c | d == 0 {
             return None;
         }
-        let first = match low {
-            0 => 128 + high.trailing_zeros(),
-            _ => low.trailing_zeros(),
-        };
-        let last = match high {
-            0 => 127 - low.leading_zeros(),
-            _ => 255 - high.leading_zeros(),
-        };
+        let (low, high, from) = if a | b != 0 { (a, b, 0) } else { (c, d, 128) };
+        let (word, from) = if low != 0 { (low, from) } else { (high, from + 64) };
+        let first = from + word.trailing_zeros();
+        let (low, high, from) = if c | d != 0 { (c, d, 128) } else { (a, b, 0) };
+        let (word, from) = if high != 0 { (high, from + 64) } else { (low, from) };
+        let last = from + 63 - word.leading_zeros();
         Some((first as u8, last as u8))
     }
 
     /// The offsets, ascending.
     #[inline]
     pub fn iter(self) -> impl Iterator<Item = u8> {
-        [0, 128]
+        [0, 64, 128, 192]
             .into_iter()
             .zip(self.0)
             .flat_map(|(from, mut bits)| {
@@ -124,12 +160,21 @@ impl FromIterator<u8> for Offsets {
     }
 }
 
+/// Word by word: compared as bytes, words that were just computed would have to go
+/// through memory.
+impl PartialEq for Offsets {
+    #[inline]
+    fn eq(&self, other: &Offsets) -> bool {
+        Offsets(std::array::from_fn(|k| self.0[k] ^ other.0[k])).is_empty()
+    }
+}
+
 impl BitAnd for Offsets {
     type Output = Offsets;
 
     #[inline]
     fn bitand(self, other: Offsets) -> Offsets {
-        Offsets([self.0[0] & other.0[0], self.0[1] & other.0[1]])
+        Offsets(std::array::from_fn(|k| self.0[k] & other.0[k]))
     }
 }
 
@@ -138,16 +183,7 @@ impl BitOr for Offsets {
 
     #[inline]
     fn bitor(self, other: Offsets) -> Offsets {
-        Offsets([self.0[0] | other.0[0], self.0[1] | other.0[1]])
-    }
-}
-
-impl Not for Offsets {
-    type Output = Offsets;
-
-    #[inline]
-    fn not(self) -> Offsets {
-        Offsets(self.0.map(|half| !half))
+        Offsets(std::array::from_fn(|k| self.0[k] | other.0[k]))
     }
 }
 

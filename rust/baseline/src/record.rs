@@ -57,9 +57,12 @@ impl Record {
     }
 
     /// The members of a sound single or accurate record.
-    #[inline]
+    #[inline(always)]
     pub fn exact_members(self) -> Offsets {
-        Offsets::strided(self.start, self.last(), (self.word / 2) as u8)
+        match self.span {
+            0 => Offsets::range(self.start, self.start),
+            _ => Offsets::strided(self.start, self.last(), (self.word / 2) as u8),
+        }
     }
 
     /// The record with the range of these members, if there is one.

@@ -9,7 +9,7 @@ use hedjosur_model::spare::NOBODY;
 use super::spare;
 use super::state::{free_block, is_sound, open, regions, regions_mut, require};
 use crate::group;
-use crate::learn::{runs, Run};
+use crate::learn::{parts, Learner, Run};
 use crate::offsets::Offsets;
 use crate::sort::{sort_batch, BATCH};
 
@@ -71,20 +71,21 @@ pub(super) fn store(
     counts[block] = (written.len() as u16).to_le_bytes();
 
     let first = block as u32 * device.block_pages;
+    let mut learner = Learner::new(written, first, device.bound);
     let mut learned = [Run::default(); BATCH];
-    let mut count = 0;
-    for run in runs(written, first, device.bound) {
-        learned[count] = run;
-        count += 1;
-    }
-    let group = |run: &Run| group_of(written[run.place]);
-    for of_group in learned[..count].chunk_by(|one, next| group(one) == group(next)) {
-        let batch = of_group.iter().map(|run| {
-            let taken = &written[run.place..][..run.length];
+    for part in parts(written) {
+        let group = group_of(written[part.start]);
+        let mut count = 0;
+        learner.learn(part, |run| {
+            learned[count] = run;
+            count += 1;
+        });
+        let batch = learned[..count].iter().map(|run| {
+            let taken = &written[usize::from(run.place)..][..usize::from(run.length)];
             let members: Offsets = taken.iter().map(|&page| offset_of(page)).collect();
             (run.record, members)
         });
-        group::take(&mut groups[group(&of_group[0])], batch);
+        group::take(&mut groups[group], batch);
     }
     first
 }

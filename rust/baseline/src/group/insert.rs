@@ -4,11 +4,8 @@ use hedjosur_layout::Part;
 use hedjosur_model::levels::GROUP_RECORDS;
 
 use super::compact::compact;
-use super::members::{members, without};
-use super::part::{
-    is_owned, level, name, owners, owners_mut, record, records, set_level, set_owned, set_owners,
-    set_records, slot, slots, slots_mut, Slot,
-};
+use super::owners::{give_up, own, without};
+use super::part::{level, record, records, set_level, set_records, slot, slots, slots_mut, Slot};
 use crate::offsets::Offsets;
 use crate::record::Record;
 
@@ -18,141 +15,116 @@ pub fn take(part: &mut Part, batch: impl ExactSizeIterator<Item = (Record, Offse
     if records(part) + batch.len() > GROUP_RECORDS {
         compact(part);
     }
+    let mut from = 0;
     for (record, members) in batch {
-        insert(part, record, members);
+        from = insert_from(part, from, record, members);
     }
 }
 
 /// Inserts a record with its members into a group of fewer than 512 records.
 pub fn insert(part: &mut Part, new: Record, taken: Offsets) {
+    insert_from(part, 0, new, taken);
+}
+
+/// As [`insert`], where the slots before `from` are of level 0 and end before the
+/// new record; answers the place behind it.
+fn insert_from(part: &mut Part, from: usize, new: Record, taken: Offsets) -> usize {
     if new.is_approximate() {
         give_up(part, taken);
     }
     let used = records(part);
-    let top = slots(part)[..used].partition_point(|slot| level(slot) == 0);
-    let (from, to) = meeting(&slots(part)[..top], new);
+    let ends_before = |slot: &Slot| level(slot) == 0 && record(slot).last() < new.start;
+    let from = from + slots(part)[from..used].partition_point(ends_before);
 
-    // What is left of the victims, from `from` on. Only the first can end before
-    // the new record and stay, and only the last can start after it.
-    let mut left = from;
+    // What is left of the victims stands from `from` to `left`. Only the first can
+    // end before the new record and stay, and only the last can start after it.
+    let (mut to, mut left) = (from, from);
     let (mut before, mut after) = (0, 0);
-    for at in from..to {
-        let victim = record(&slots(part)[at]);
-        let victim_members = members(part, victim);
-        if let Some(shrunk) = without(part, victim, victim_members, taken) {
+    while to < used {
+        let old = slots(part)[to];
+        let victim = record(&old);
+        if level(&old) != 0 || victim.start > new.last() {
+            break;
+        }
+        to += 1;
+        if let Some(shrunk) = without(part, victim, taken) {
             before += usize::from(shrunk.last() < new.start);
             after += usize::from(shrunk.start > new.last());
             slots_mut(part)[left] = slot(shrunk, 0);
             left += 1;
         }
     }
-
-    // The new record behind them, then to its place; those that go down follow
-    // what stays in level 0.
+    let sinking = left - from - before - after;
     let slots = slots_mut(part);
-    slots.copy_within(to..used, left + 1);
-    slots[left] = slot(new, 0);
-    slots[from + before..=left].rotate_right(1);
-    let used = used + left + 1 - to;
-    let moved = left - from - before - after;
-    if moved > 0 {
-        let top = top + left + 1 - to;
-        slots[from + before + 1..top].rotate_left(moved);
-        settle(&mut slots[top - moved..used], moved);
-    }
+    let used = place(slots, used, new, from + before, left, to, sinking);
     set_records(part, used);
     if new.is_approximate() {
         own(part, taken, new.start);
     }
+    from + before + 1
 }
 
-/// The places in an ascending level whose records meet a record's range.
-#[inline]
-fn meeting(level: &[Slot], new: Record) -> (usize, usize) {
-    let from = level.partition_point(|slot| record(slot).last() < new.start);
-    let count = level[from..].partition_point(|slot| slot[0] <= new.last());
-    (from, from + count)
+/// Puts a record at its place in level 0, before the victims that are left up to
+/// `left` of those up to `to`. The first of them, so many, sink to level 1. Answers
+/// the slots used then.
+fn place(
+    slots: &mut [Slot],
+    mut used: usize,
+    new: Record,
+    at: usize,
+    left: usize,
+    to: usize,
+    sinking: usize,
+) -> usize {
+    let new = slot(new, 0);
+    let mut top = to;
+    if sinking > 0 {
+        top += slots[to..used].partition_point(|slot| level(slot) == 0);
+    }
+    let mut sinking = sinking;
+    if left < to {
+        // In the place of a victim that is gone.
+        slots[left] = new;
+        slots[at..=left].rotate_right(1);
+        slots.copy_within(to..used, left + 1);
+        let closed = to - left - 1;
+        (top, used) = (top - closed, used - closed);
+    } else if sinking == 0 {
+        slots.copy_within(at..used, at + 1);
+        slots[at] = new;
+        used += 1;
+    } else {
+        // In the place of the first that sinks.
+        let mut sunk = std::mem::replace(&mut slots[at], new);
+        let to = sink(&mut slots[..used], top, &sunk);
+        set_level(&mut sunk, 1);
+        slots.copy_within(to..used, to + 1);
+        slots[to] = sunk;
+        used += 1;
+        sinking -= 1;
+    }
+    for _ in 0..sinking {
+        let sunk = slots[at + 1];
+        let to = sink(&mut slots[..used], top, &sunk);
+        set_level(&mut slots[at + 1], 1);
+        slots[at + 1..to].rotate_left(1);
+        top -= 1;
+    }
+    used
 }
 
-/// Puts the first `moved` of these slots, which the slots of all levels below 0
-/// follow, into their levels. They join level 1 up to the first that meets
-/// something there; that one opens a level between, and the rest join it there,
-/// because records that shared a level don't meet each other.
-fn settle(slots: &mut [Slot], moved: usize) {
-    let (down, below) = slots.split_at_mut(moved);
-    let next = below.partition_point(|slot| level(slot) == 1);
-    let opening = down.iter().position(|slot| {
-        let (from, to) = meeting(&below[..next], record(slot));
-        from < to
-    });
-    let joining = opening.unwrap_or(moved);
-    if opening.is_some() {
-        for slot in below {
+/// The place in level 1, which begins at `top`, for a slot that sinks. If it meets
+/// something there, a new level for it goes between.
+fn sink(slots: &mut [Slot], top: usize, sunk: &Slot) -> usize {
+    let sunk = record(sunk);
+    let ends_before = |slot: &Slot| level(slot) == 1 && record(slot).last() < sunk.start;
+    let at = top + slots[top..].partition_point(ends_before);
+    let next = slots.get(at).filter(|next| level(next) == 1);
+    if next.is_some_and(|next| record(next).start <= sunk.last()) {
+        for slot in &mut slots[top..] {
             set_level(slot, level(slot) + 1);
         }
-        down.rotate_left(joining);
+        return top;
     }
-    let (opened, joined) = down.split_at_mut(moved - joining);
-    let joined_level = if opened.is_empty() { 1 } else { 2 };
-    opened.iter_mut().for_each(|slot| set_level(slot, 1));
-    joined
-        .iter_mut()
-        .for_each(|slot| set_level(slot, joined_level));
-    merge(&mut slots[moved - joining..moved + next], joining);
-}
-
-/// Merges two ascending lists of records, the first of this length.
-fn merge(slots: &mut [Slot], first: usize) {
-    for at in (0..first).rev() {
-        let start = slots[at][0];
-        let passed = slots[at + 1..].partition_point(|slot| slot[0] < start);
-        slots[at..=at + passed].rotate_left(1);
-    }
-}
-
-/// Every approximate record gives up these offsets; it shrinks or goes, and a
-/// level other than 0 that is left empty goes too.
-fn give_up(part: &mut Part, taken: Offsets) {
-    if !is_owned(part) {
-        return;
-    }
-    let losing: Offsets = taken
-        .iter()
-        .filter_map(|offset| {
-            let owner = u16::from_le_bytes(owners(part)[usize::from(offset)]);
-            Some(owner.checked_sub(1)? as u8)
-        })
-        .collect();
-    if losing.is_empty() {
-        return;
-    }
-    let (mut kept, mut levels, mut last_level) = (0, 0, 0);
-    for at in 0..records(part) {
-        let old = slots(part)[at];
-        let mut held = record(&old);
-        if held.is_approximate() && losing.contains(held.start) {
-            let owned = members(part, held);
-            match without(part, held, owned, taken) {
-                Some(shrunk) => held = shrunk,
-                None => continue,
-            }
-        }
-        if level(&old) != last_level {
-            last_level = level(&old);
-            levels += 1;
-        }
-        slots_mut(part)[kept] = slot(held, levels);
-        kept += 1;
-    }
-    set_records(part, kept);
-}
-
-/// Makes the approximate record with this start the owner of offsets that nobody
-/// owns.
-fn own(part: &mut Part, offsets: Offsets, start: u8) {
-    if !is_owned(part) {
-        owners_mut(part).fill([0; 2]);
-        set_owned(part, true);
-    }
-    set_owners(part, offsets, name(start));
+    at
 }

@@ -4,7 +4,7 @@
 mod compact;
 mod find;
 mod insert;
-mod members;
+mod owners;
 mod part;
 mod sound;
 

@@ -4,14 +4,19 @@ use hedjosur_layout::{
     Part, LEVEL_AT, OWNED_AT, OWNERS_AT, OWNER_BYTES, SLOTS_AT, SLOT_BYTES, USED_AT,
 };
 
-use crate::offsets::Offsets;
 use crate::record::Record;
 
 /// A slot's bytes: a record and its level. Used slots stand in listing order.
 pub(super) type Slot = [u8; SLOT_BYTES];
 
 /// An owner's bytes: 0, or its record's start plus 1.
-type Owner = [u8; OWNER_BYTES];
+pub(super) type Owner = [u8; OWNER_BYTES];
+
+/// The owners' bytes of all offsets.
+pub(super) type Owners = [Owner; 256];
+
+/// What is stored for an offset that nobody owns.
+pub(super) const NOBODY: Owner = [0; OWNER_BYTES];
 
 /// How many records the group holds.
 #[inline]
@@ -47,28 +52,21 @@ pub(super) fn slots_mut(part: &mut Part) -> &mut [Slot] {
 }
 
 #[inline]
-pub(super) fn owners(part: &Part) -> &[Owner] {
-    part[OWNERS_AT..].as_chunks().0
+pub(super) fn owners(part: &Part) -> &Owners {
+    let (owners, _) = part[OWNERS_AT..].as_chunks();
+    owners.first_chunk().expect("an owner for each offset")
 }
 
 #[inline]
-pub(super) fn owners_mut(part: &mut Part) -> &mut [Owner] {
-    part[OWNERS_AT..].as_chunks_mut().0
+pub(super) fn owners_mut(part: &mut Part) -> &mut Owners {
+    let (owners, _) = part[OWNERS_AT..].as_chunks_mut();
+    owners.first_chunk_mut().expect("an owner for each offset")
 }
 
 /// What is stored for an offset that the record with this start owns.
 #[inline]
 pub(super) fn name(start: u8) -> Owner {
     (u16::from(start) + 1).to_le_bytes()
-}
-
-/// Gives offsets an owner.
-#[inline]
-pub(super) fn set_owners(part: &mut Part, offsets: Offsets, owner: Owner) {
-    let owners = owners_mut(part);
-    for offset in offsets.iter() {
-        owners[usize::from(offset)] = owner;
-    }
 }
 
 #[inline]

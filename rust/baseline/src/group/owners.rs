@@ -1,0 +1,137 @@
+//! Members and owners: which offsets a record of the group has, and how approximate
+//! records give up and get theirs.
+
+use hedjosur_layout::Part;
+
+use super::part::{
+    is_owned, level, name, owners, owners_mut, record, records, set_level, set_owned, set_records,
+    slots, slots_mut, Owner, NOBODY,
+};
+use crate::offsets::Offsets;
+use crate::record::Record;
+
+/// The members of a record of the group.
+#[inline(always)]
+pub(super) fn members(part: &Part, record: Record) -> Offsets {
+    match record.is_approximate() {
+        true => owned(part, record),
+        false => record.exact_members(),
+    }
+}
+
+/// The offsets that an approximate record owns.
+#[inline(never)]
+fn owned(part: &Part, record: Record) -> Offsets {
+    let name = name(record.start);
+    let (parts, _) = owners(part).as_chunks();
+    let mut words = [0; 4];
+    let covered = usize::from(record.start / 64)..=usize::from(record.last() / 64);
+    for (word, part) in words[covered.clone()].iter_mut().zip(&parts[covered]) {
+        *word = owned_by(part, name);
+    }
+    Offsets::from_words(words)
+}
+
+/// Which of 64 offsets have an owner, a bit each.
+fn owned_by(owners: &[Owner; 64], name: Owner) -> u64 {
+    let equal: [u8; 64] = std::array::from_fn(|at| u8::from(owners[at] == name));
+    let (parts, _) = equal.as_chunks::<8>();
+    parts.iter().rev().fold(0, |bits, &part| {
+        // Eight bytes that are 0 or 1 become eight bits.
+        let gathered = u64::from_le_bytes(part).wrapping_mul(0x0102_0408_1020_4080) >> 56;
+        bits << 8 | gathered
+    })
+}
+
+/// What is left of a record of the group when it loses some offsets; the owners
+/// are brought up to date.
+#[inline]
+pub(super) fn without(part: &mut Part, record: Record, lost: Offsets) -> Option<Record> {
+    match record.is_approximate() {
+        true => disown(part, record, lost),
+        false => record.narrowed(record.exact_members().without(lost)),
+    }
+}
+
+/// As [`without`], for an approximate record.
+fn disown(part: &mut Part, record: Record, lost: Offsets) -> Option<Record> {
+    let members = owned(part, record);
+    let remaining = members.without(lost);
+    if remaining == members {
+        return Some(record);
+    }
+    set_owners(part, members & lost, NOBODY);
+    let left = record.narrowed(remaining);
+    match left {
+        Some(left) if left.start != record.start => {
+            set_owners(part, remaining, name(left.start));
+        }
+        Some(_) => {}
+        None if owners(part).iter().all(|&owner| owner == NOBODY) => set_owned(part, false),
+        None => {}
+    }
+    left
+}
+
+/// Every approximate record gives up these offsets; it shrinks or goes, and a
+/// level other than 0 that is left empty goes too.
+pub(super) fn give_up(part: &mut Part, taken: Offsets) {
+    if !is_owned(part) {
+        return;
+    }
+    let losing = taken.iter().filter_map(|offset| {
+        let owner = u16::from_le_bytes(owners(part)[usize::from(offset)]);
+        Some(owner.checked_sub(1)? as u8)
+    });
+    let mut losing: Offsets = losing.collect();
+    let mut at = 0;
+    while !losing.is_empty() {
+        let held = record(&slots(part)[at]);
+        if !held.is_approximate() || !losing.contains(held.start) {
+            at += 1;
+            continue;
+        }
+        losing.remove(held.start);
+        match disown(part, held, taken) {
+            Some(left) => {
+                let slot = &mut slots_mut(part)[at];
+                (slot[0], slot[1]) = (left.start, left.span);
+                at += 1;
+            }
+            None => remove(part, at),
+        }
+    }
+}
+
+/// Takes a slot out, and its level if that is not 0 and has no other.
+fn remove(part: &mut Part, at: usize) {
+    let used = records(part);
+    let slots = &mut slots_mut(part)[..used];
+    let own = level(&slots[at]);
+    let has_level = |at: usize| slots.get(at).is_some_and(|slot| level(slot) == own);
+    if own > 0 && !has_level(at - 1) && !has_level(at + 1) {
+        for slot in &mut slots[at + 1..] {
+            set_level(slot, level(slot) - 1);
+        }
+    }
+    slots.copy_within(at + 1.., at);
+    set_records(part, used - 1);
+}
+
+/// Makes the approximate record with this start the owner of offsets that nobody
+/// owns.
+pub(super) fn own(part: &mut Part, offsets: Offsets, start: u8) {
+    if !is_owned(part) {
+        *owners_mut(part) = [NOBODY; 256];
+        set_owned(part, true);
+    }
+    set_owners(part, offsets, name(start));
+}
+
+/// Gives offsets an owner.
+fn set_owners(part: &mut Part, offsets: Offsets, owner: Owner) {
+    let owners = owners_mut(part);
+    for offset in offsets.iter() {
+        owners[usize::from(offset)] = owner;
+    }
+}
