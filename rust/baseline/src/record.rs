@@ -77,17 +77,17 @@ impl Record {
         })
     }
 
-    /// The predicted page at an offset, of a word as tabled; it may lie outside
-    /// the device.
+    /// The predicted page at an offset, of a word as tabled. A prediction outside
+    /// the device, modulo 2^32, is still outside.
     #[inline]
-    pub fn predicted(self, offset: u8) -> i64 {
-        let factor = u32::from(self.word / 2);
-        let offset = u32::from(offset);
+    pub fn predicted(self, offset: u8) -> u32 {
+        let (offset, factor) = (u32::from(offset), u32::from(self.word / 2));
         let rise = match self.word {
             0 => 0,
-            _ if self.is_approximate() => (factor * offset).div_ceil(256),
-            _ => offset.div_ceil(factor),
+            2 => offset,
+            _ if self.is_approximate() => (factor * offset + 255) / 256,
+            _ => (offset + factor - 1) / factor,
         };
-        i64::from(self.intercept) + i64::from(rise)
+        (self.intercept as u32).wrapping_add(rise)
     }
 }

@@ -1,15 +1,21 @@
 //! Collection.
 
-use hedjosur_model::device::{group_of, Device};
+use hedjosur_layout::Part;
 use hedjosur_model::ops::{Collected, Refusal};
 
-use super::calls::{seek, store};
+use super::flush::store;
+use super::lookup::resolve;
+use super::numbers::Numbers;
 use super::spare;
-use super::state::{free_block, is_sound, open, regions, regions_mut, require, FREE};
-use crate::sort::{sort_writes, BATCH};
+use super::state::{free_block, is_sound, open_with, regions, regions_mut, require, Count, FREE};
+use crate::group::{self, NOT_WRITTEN};
+use crate::sort::{sort_batch, BATCH};
 
 /// The most blocks of a device.
 const BLOCKS: usize = 4096;
+
+/// For each block, its valid pages.
+type Tally = [u16; BLOCKS];
 
 /// Collects the blocks with the fewest valid pages; the plan gets source pages,
 /// `erased` the blocks in the order in which they were taken.
@@ -19,97 +25,163 @@ pub fn collect(
     plan: &mut [u32],
     erased: &mut [u32],
 ) -> Result<Collected, Refusal> {
-    let device = open(state)?;
-    require(area.len() == device.spare_length(), Refusal::BadLength)?;
-    require(
-        plan.len() == device.block_pages as usize,
-        Refusal::BadLength,
-    )?;
+    let device = open_with(state, area)?;
+    require(plan.len() == device.block_pages as usize, Refusal::BadLength)?;
     require(erased.len() == device.blocks as usize, Refusal::BadLength)?;
     require(is_sound(&device, state), Refusal::NotSound)?;
-    let mut order = [Used::default(); BLOCKS];
-    let (taken, total) = taken_blocks(&device, state, area, &mut order);
-    let gains = taken.len() >= 2 || (taken.len() == 1 && total == 0);
+    let (counts, groups) = regions(&device, state);
+    let tally = tally(&device, groups, area);
+    let mut order = Order::of(&device, counts, &tally);
+    let gains = order.taken >= 2 || (order.taken == 1 && order.valid == 0);
     require(gains, Refusal::NothingToGain)?;
-    let free = free_block(regions(&device, state).0, 0);
-    require(total == 0 || free.is_some(), Refusal::NoFreeBlock)?;
+    let free = free_block(counts, 0);
+    require(order.valid == 0 || free.is_some(), Refusal::NoFreeBlock)?;
 
-    let mut pages = [0; BATCH];
-    let (pages, sources) = (&mut pages[..total], &mut plan[..total]);
-    let moved = taken
-        .iter()
-        .filter(|taken| taken.valid > 0)
-        .flat_map(|taken| valid_pages(&device, state, area, taken.block));
-    for ((page, source), (logical_page, on)) in pages.iter_mut().zip(&mut *sources).zip(moved) {
-        (*page, *source) = (logical_page, on);
-    }
-    sort_writes(pages, sources);
+    order.list(counts, &tally, erased);
+    let taken = &erased[..order.taken];
     let first = match free {
-        Some(block) if total > 0 => store(&device, state, area, block, pages),
+        Some(block) if order.valid > 0 => {
+            let nonempty = taken.iter().filter(|&&block| tally[block as usize] > 0);
+            let mut pages = [0; BATCH];
+            let count = moves(&device, groups, area, nonempty, &mut pages, plan);
+            store(&device, state, area, block, &pages[..count])
+        }
         _ => 0,
     };
     let (counts, _) = regions_mut(&device, state);
-    for (entry, taken) in erased.iter_mut().zip(taken) {
-        let block = usize::from(taken.block);
-        spare::erase(&device, area, block);
-        counts[block] = FREE;
-        *entry = block as u32;
+    for &block in taken {
+        spare::erase(&device, area, block as usize);
+        counts[block as usize] = FREE;
     }
     Ok(Collected {
         first,
-        count: total as u32,
-        erased: taken.len() as u32,
+        count: order.valid as u32,
+        erased: order.taken as u32,
     })
 }
 
-/// A used block and its valid pages, in the order in which blocks are taken.
-#[derive(Clone, Copy, Debug, Default, PartialEq, Eq, PartialOrd, Ord)]
-struct Used {
-    valid: u16,
-    block: u16,
+/// The valid pages of each block, counted by logical page: each has at most one.
+fn tally(device: &Numbers, groups: &[Part], area: &[u32]) -> Tally {
+    let mut tally = [0; BLOCKS];
+    let mut pages = [NOT_WRITTEN; 256];
+    // 2^32 divided by B and rounded up: a page's block without a division.
+    let reciprocal = (1u64 << 32).div_ceil(device.block_pages.into());
+    for (part, number) in groups.iter().zip(0..) {
+        group::predict(part, &mut pages);
+        for (&predicted, logical_page) in pages.iter().zip(256 * number..) {
+            if let Some(page) = valid_page(device, area, predicted, logical_page) {
+                let block = (u64::from(page) * reciprocal >> 32) as usize;
+                tally[block % BLOCKS] += 1;
+            }
+        }
+    }
+    tally
 }
 
-/// The blocks that are taken, in order, and their valid pages altogether.
-fn taken_blocks<'a>(
-    device: &Device,
-    state: &[u8],
+/// The page of a logical page, if its middle entry names that.
+#[inline]
+fn valid_page(device: &Numbers, area: &[u32], predicted: u32, logical_page: u32) -> Option<u32> {
+    let page = resolve(device, area, predicted, logical_page)?;
+    let names = page == predicted || spare::middle(device, area, page) == logical_page;
+    names.then_some(page)
+}
+
+/// The order in which used blocks are taken: fewest valid pages first, then lowest
+/// number.
+struct Order {
+    /// For each number of valid pages, the places in the order of the blocks with so
+    /// many: the next and the last but one.
+    places: [(u16, u16); 257],
+    /// How many blocks are taken.
+    taken: usize,
+    /// Their valid pages altogether.
+    valid: usize,
+}
+
+impl Order {
+    fn of(device: &Numbers, counts: &[Count], tally: &Tally) -> Order {
+        let mut blocks = [0; 257];
+        for (_, &valid) in used(counts, tally) {
+            blocks[usize::from(valid)] += 1;
+        }
+        let mut order = Order {
+            places: [(0, 0); 257],
+            taken: 0,
+            valid: 0,
+        };
+        let mut room = device.block_pages as usize;
+        for (valid, (place, &blocks)) in order.places.iter_mut().zip(&blocks).enumerate() {
+            let fitting = match valid * blocks <= room {
+                true => blocks,
+                false => room / valid,
+            };
+            *place = (order.taken as u16, (order.taken + fitting) as u16);
+            order.taken += fitting;
+            order.valid += valid * fitting;
+            room -= valid * fitting;
+            if fitting < blocks {
+                break;
+            }
+        }
+        order
+    }
+
+    /// Writes the blocks that are taken to the front of `erased`.
+    fn list(&mut self, counts: &[Count], tally: &Tally, erased: &mut [u32]) {
+        for (block, &valid) in used(counts, tally) {
+            let (next, end) = &mut self.places[usize::from(valid)];
+            if next < end {
+                erased[usize::from(*next)] = block;
+                *next += 1;
+            }
+        }
+    }
+}
+
+/// The used blocks and their valid pages.
+fn used<'a>(counts: &'a [Count], tally: &'a Tally) -> impl Iterator<Item = (u32, &'a u16)> {
+    let blocks = counts.iter().zip((0..).zip(tally));
+    blocks.filter(|(&count, _)| count != FREE).map(|(_, block)| block)
+}
+
+/// The valid pages of these blocks: their logical pages, sorted, and in the plan the
+/// pages themselves. Answers how many.
+fn moves<'a>(
+    device: &Numbers,
+    groups: &[Part],
     area: &[u32],
-    order: &'a mut [Used; BLOCKS],
-) -> (&'a [Used], usize) {
-    let (counts, _) = regions(device, state);
-    let mut used = 0;
-    for (block, _) in (0..).zip(counts).filter(|(_, &count)| count != FREE) {
-        let valid = valid_pages(device, state, area, block).count() as u16;
-        order[used] = Used { valid, block };
-        used += 1;
-    }
-    order[..used].sort_unstable();
-    let (mut taken, mut total) = (0, 0);
-    for next in &order[..used] {
-        let more = total + usize::from(next.valid);
-        if more > device.block_pages as usize {
-            break;
+    blocks: impl Iterator<Item = &'a u32>,
+    sorted: &mut [u32; BATCH],
+    plan: &mut [u32],
+) -> usize {
+    let mut logical_pages = [0; BATCH];
+    let mut sources = [0; BATCH];
+    let mut count = 0;
+    for &block in blocks {
+        let first = block * device.block_pages;
+        for page in first..first + device.block_pages {
+            let logical_page = spare::middle(device, area, page);
+            if logical_page < device.logical_pages
+                && is_valid(device, groups, area, logical_page, page)
+            {
+                (logical_pages[count], sources[count]) = (logical_page, page);
+                count += 1;
+            }
         }
-        (taken, total) = (taken + 1, more);
     }
-    (&order[..taken], total)
+    sort_batch(&logical_pages[..count], sorted, plan);
+    for source in &mut plan[..count] {
+        *source = sources[*source as usize];
+    }
+    count
 }
 
-/// The valid pages of a block, as logical page and page.
-fn valid_pages<'a>(
-    device: &'a Device,
-    state: &'a [u8],
-    area: &'a [u32],
-    block: u16,
-) -> impl Iterator<Item = (u32, u32)> + 'a {
-    let (_, groups) = regions(device, state);
-    device.pages_of_block(block.into()).filter_map(move |page| {
-        let logical_page = spare::middle(device, area, page as usize);
-        if logical_page >= device.logical_pages {
-            return None;
-        }
-        let part = &groups[group_of(logical_page)];
-        let found = seek(device, part, area, logical_page).ok()?.page();
-        (found == Some(page)).then_some((logical_page, page))
+/// Whether lookup of the logical page that a page's middle entry names gives that
+/// page.
+fn is_valid(device: &Numbers, groups: &[Part], area: &[u32], logical_page: u32, page: u32) -> bool {
+    let offset = (logical_page % 256) as u8;
+    let found = group::find(&groups[(logical_page / 256) as usize], offset);
+    found.record.is_some_and(|record| {
+        resolve(device, area, record.predicted(offset), logical_page) == Some(page)
     })
 }

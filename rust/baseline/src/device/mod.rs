@@ -1,10 +1,19 @@
 //! The calls on a whole state, on the bytes of docs/LAYOUT.md. Each refuses in
 //! document 01's order, and a refused call changes nothing.
 
-mod calls;
+mod agree;
 mod collect;
+mod flush;
+mod format;
+mod lookup;
+mod numbers;
 mod spare;
 mod state;
+mod upkeep;
 
-pub use calls::{agree, compact, flush, format, list, lookup};
+pub use agree::agree;
 pub use collect::collect;
+pub use flush::flush;
+pub use format::format;
+pub use lookup::lookup;
+pub use upkeep::{compact, list};

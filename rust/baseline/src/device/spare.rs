@@ -1,53 +1,94 @@
 //! The spare area.
 
-use hedjosur_model::device::Device;
 use hedjosur_model::spare::NOBODY;
 
+use super::numbers::Numbers;
+use crate::sort::BATCH;
+
+/// The greatest error bound.
+const MOST_BOUND: usize = 15;
+
+/// The logical pages of a block, with as many entries that name nobody around them
+/// as the bound may be.
+type Around = [u32; BATCH + 2 * MOST_BOUND];
+
+/// For each error bound, what writes the entries of the first pages of a block.
+static PROGRAM: [fn(&mut [u32], &[u32]); MOST_BOUND + 1] = [
+    program::<1>,
+    program::<3>,
+    program::<5>,
+    program::<7>,
+    program::<9>,
+    program::<11>,
+    program::<13>,
+    program::<15>,
+    program::<17>,
+    program::<19>,
+    program::<21>,
+    program::<23>,
+    program::<25>,
+    program::<27>,
+    program::<29>,
+    program::<31>,
+];
+
 /// The entries of a block.
-fn block_entries<'a>(device: &Device, area: &'a mut [u32], block: usize) -> &'a mut [u32] {
-    let length = device.block_pages as usize * device.entries_per_page();
+fn block_entries<'a>(device: &Numbers, area: &'a mut [u32], block: usize) -> &'a mut [u32] {
+    let length = device.block_pages as usize * device.width();
     &mut area[block * length..][..length]
 }
 
 /// Erases a block: its pages name nobody.
-pub(super) fn erase(device: &Device, area: &mut [u32], block: usize) {
+pub(super) fn erase(device: &Numbers, area: &mut [u32], block: usize) {
     block_entries(device, area, block).fill(NOBODY);
 }
 
 /// Erases a block and programs its first pages: each entry is written once.
-pub(super) fn write(device: &Device, area: &mut [u32], block: usize, written: &[u32]) {
+pub(super) fn write(device: &Numbers, area: &mut [u32], block: usize, written: &[u32]) {
     let bound = device.bound as usize;
     let entries = block_entries(device, area, block);
-    let (programmed, erased) = entries.split_at_mut(written.len() * device.entries_per_page());
+    let (programmed, erased) = entries.split_at_mut(written.len() * device.width());
     erased.fill(NOBODY);
-    for (entries, at) in programmed.chunks_mut(device.entries_per_page()).zip(0..) {
-        // Entry j is about place at − bound + j, if that is one.
-        let missing = bound.saturating_sub(at);
-        let named = &written[at.saturating_sub(bound)..written.len().min(at + bound + 1)];
-        let (before, rest) = entries.split_at_mut(missing);
-        let (there, after) = rest.split_at_mut(named.len());
-        before.fill(NOBODY);
-        there.copy_from_slice(named);
-        after.fill(NOBODY);
+    if bound == 0 {
+        programmed.copy_from_slice(written);
+        return;
+    }
+    let mut around: Around = [NOBODY; BATCH + 2 * MOST_BOUND];
+    around[bound..][..written.len()].copy_from_slice(written);
+    PROGRAM[bound](programmed, &around);
+}
+
+/// Writes the entries of a block's first pages, so many each: entry j of page i is
+/// number i + j of those around.
+fn program<const WIDTH: usize>(entries: &mut [u32], around: &[u32]) {
+    let (pages, _) = entries.as_chunks_mut::<WIDTH>();
+    for (page, named) in pages.iter_mut().zip(around.windows(WIDTH)) {
+        page.copy_from_slice(named);
     }
 }
 
 /// The middle entry of a page.
 #[inline]
-pub(super) fn middle(device: &Device, area: &[u32], page: usize) -> u32 {
-    area[page * device.entries_per_page() + device.bound as usize]
+pub(super) fn middle(device: &Numbers, area: &[u32], page: u32) -> u32 {
+    area[page as usize * device.width() + device.bound as usize]
 }
 
 /// The page that holds a logical page, told by the predicted page's entries.
 #[inline]
-pub(super) fn resolve(device: &Device, area: &[u32], predicted: u32, logical: u32) -> Option<u32> {
-    let (width, bound) = (device.entries_per_page(), device.bound);
-    let entries = &area[predicted as usize * width..][..width];
-    if entries[bound as usize] == logical {
-        return Some(predicted);
+pub(super) fn resolve(device: &Numbers, area: &[u32], predicted: u32, logical: u32) -> Option<u32> {
+    match middle(device, area, predicted) == logical {
+        true => Some(predicted),
+        false => named(device, area, predicted, logical),
     }
-    entries.iter().zip(0..).find_map(|(&named, j)| {
-        let page = (predicted + j).checked_sub(bound)?;
-        (named == logical && page < device.pages()).then_some(page)
-    })
+}
+
+/// The page of the lowest entry that names a logical page. Entries for pages that
+/// don't exist are left out.
+fn named(device: &Numbers, area: &[u32], predicted: u32, logical: u32) -> Option<u32> {
+    let entries = &area[predicted as usize * device.width()..][..device.width()];
+    let first = device.bound.saturating_sub(predicted);
+    let after = (device.pages() + device.bound - predicted).min(device.width() as u32);
+    let existing = &entries[first as usize..after as usize];
+    let at = existing.iter().position(|&named| named == logical)?;
+    Some(predicted + first + at as u32 - device.bound)
 }

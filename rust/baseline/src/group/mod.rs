@@ -6,10 +6,12 @@ mod find;
 mod insert;
 mod owners;
 mod part;
+mod predictions;
 mod sound;
 
 pub use compact::compact;
 pub use find::{find, Found};
 pub use insert::{insert, take};
 pub use part::records;
+pub use predictions::{predict, Predictions, NOT_WRITTEN};
 pub use sound::sound;

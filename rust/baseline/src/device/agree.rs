@@ -1,0 +1,61 @@
+//! Agreement.
+
+use hedjosur_layout::Part;
+use hedjosur_model::ops::Refusal;
+
+use super::lookup::resolve;
+use super::numbers::Numbers;
+use super::state::{is_sound, open_with, regions, require};
+use crate::group::{self, Predictions, NOT_WRITTEN};
+
+/// Whether two states, each with its spare area, agree.
+pub fn agree(one: (&[u8], &[u32]), other: (&[u8], &[u32])) -> Result<bool, Refusal> {
+    let one = Side::open(one)?;
+    let other = Side::open(other)?;
+    let mut agreed = one.device.logical_pages == other.device.logical_pages;
+    let mut pages = [[NOT_WRITTEN; 256]; 2];
+    for number in 0..one.groups.len().max(other.groups.len()) {
+        one.look_up(number, &mut pages[0])?;
+        other.look_up(number, &mut pages[1])?;
+        let [one, other] = &pages;
+        agreed &= one == other;
+    }
+    Ok(agreed)
+}
+
+/// A state and its spare area.
+struct Side<'a> {
+    device: Numbers,
+    groups: &'a [Part],
+    area: &'a [u32],
+}
+
+impl<'a> Side<'a> {
+    /// Refuses 1, 2 and 3.
+    fn open((state, area): (&'a [u8], &'a [u32])) -> Result<Side<'a>, Refusal> {
+        let device = open_with(state, area)?;
+        require(is_sound(&device, state), Refusal::NotSound)?;
+        let (_, groups) = regions(&device, state);
+        Ok(Side {
+            device,
+            groups,
+            area,
+        })
+    }
+
+    /// Looks up all logical pages of a group; a page beyond the last is not written.
+    fn look_up(&self, number: usize, pages: &mut Predictions) -> Result<(), Refusal> {
+        let Some(part) = self.groups.get(number) else {
+            pages.fill(NOT_WRITTEN);
+            return Ok(());
+        };
+        group::predict(part, pages);
+        for (page, logical_page) in pages.iter_mut().zip(256 * number as u32..) {
+            if *page != NOT_WRITTEN {
+                let found = resolve(&self.device, self.area, *page, logical_page);
+                *page = found.ok_or(Refusal::NotNamed)?;
+            }
+        }
+        Ok(())
+    }
+}

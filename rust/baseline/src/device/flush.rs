@@ -1,0 +1,85 @@
+//! Flush, and the block that it and a collection write.
+
+use hedjosur_model::ops::{Flushed, Refusal};
+
+use super::numbers::Numbers;
+use super::spare;
+use super::state::{free_block, is_sound, open_with, regions, regions_mut, require};
+use crate::group;
+use crate::learn::{parts, Learner, Run};
+use crate::offsets::Offsets;
+use crate::sort::{ascends, number, sort_batch, BATCH};
+
+/// Flushes a batch; the plan gets the arrival index of each page written.
+pub fn flush(
+    state: &mut [u8],
+    area: &mut [u32],
+    batch: &[u32],
+    plan: &mut [u32],
+) -> Result<Flushed, Refusal> {
+    let device = open_with(state, area)?;
+    let block_pages = device.block_pages as usize;
+    require(plan.len() == block_pages, Refusal::BadLength)?;
+    require(is_sound(&device, state), Refusal::NotSound)?;
+    require((1..=block_pages).contains(&batch.len()), Refusal::BadBatch)?;
+    let greatest = batch.iter().fold(0, |greatest, &page| page.max(greatest));
+    require(greatest < device.logical_pages, Refusal::OutOfRange)?;
+    let (counts, _) = regions(&device, state);
+    let block = free_block(counts, 0).ok_or(Refusal::NoFreeBlock)?;
+    free_block(counts, block + 1).ok_or(Refusal::NoFreeBlock)?;
+
+    let mut sorted;
+    let written = if ascends(batch) {
+        number(&mut plan[..batch.len()]);
+        batch
+    } else {
+        sorted = [0; BATCH];
+        let count = sort_batch(batch, &mut sorted, plan);
+        &sorted[..count]
+    };
+    Ok(Flushed {
+        first: store(&device, state, area, block, written),
+        count: written.len() as u32,
+    })
+}
+
+/// Puts sorted logical pages on a block, learns them and takes the records in.
+/// Answers the first page.
+pub(super) fn store(
+    device: &Numbers,
+    state: &mut [u8],
+    area: &mut [u32],
+    block: usize,
+    written: &[u32],
+) -> u32 {
+    spare::write(device, area, block, written);
+    let (counts, groups) = regions_mut(device, state);
+    counts[block] = (written.len() as u16).to_le_bytes();
+
+    let first = block as u32 * device.block_pages;
+    let mut learner = Learner::new(written, first, device.bound);
+    let mut runs = [Run::default(); BATCH];
+    for part in parts(written) {
+        let group = (written[part.start] / 256) as usize;
+        let mut count = 0;
+        learner.learn(part, |run| {
+            runs[count] = run;
+            count += 1;
+        });
+        let batch = runs[..count].iter().map(|run| {
+            let taken = &written[usize::from(run.place)..][..usize::from(run.length)];
+            (run.record, members(run, taken))
+        });
+        group::take(&mut groups[group], batch);
+    }
+    first
+}
+
+/// The members of a run's record.
+#[inline]
+fn members(run: &Run, taken: &[u32]) -> Offsets {
+    match run.record.is_approximate() {
+        true => taken.iter().map(|&page| (page % 256) as u8).collect(),
+        false => run.record.exact_members(),
+    }
+}
