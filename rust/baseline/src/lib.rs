@@ -21,4 +21,4 @@ mod neighbours;
 pub mod offsets;
 pub mod record;
 pub mod sort;
-mod stride;
+mod words;

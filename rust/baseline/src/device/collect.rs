@@ -41,10 +41,12 @@ pub fn collect(
     let taken = &erased[..order.taken];
     let first = match free {
         Some(block) if order.valid > 0 => {
-            let nonempty = taken.iter().filter(|&&block| tally[block as usize] > 0);
-            let mut pages = [0; BATCH];
-            let count = moves(&device, groups, area, nonempty, &mut pages, plan);
-            store(&device, state, area, block, &pages[..count])
+            let mut moves = Moves::none();
+            for &block in taken {
+                moves.add(&device, groups, area, block, tally[block as usize]);
+            }
+            let pages = moves.sorted(plan);
+            store(&device, state, area, block, &pages[..order.valid])
         }
         _ => 0,
     };
@@ -144,39 +146,52 @@ fn used<'a>(counts: &'a [Count], tally: &'a Tally) -> impl Iterator<Item = (u32,
     blocks.filter(|(&count, _)| count != FREE).map(|(_, block)| block)
 }
 
-/// The valid pages of these blocks: their logical pages, sorted, and in the plan the
-/// pages themselves. Answers how many.
-fn moves<'a>(
-    device: &Numbers,
-    groups: &[Part],
-    area: &[u32],
-    blocks: impl Iterator<Item = &'a u32>,
-    sorted: &mut [u32; BATCH],
-    plan: &mut [u32],
-) -> usize {
-    let mut logical_pages = [0; BATCH];
-    let mut sources = [0; BATCH];
-    let mut count = 0;
-    for &block in blocks {
-        let first = block * device.block_pages;
-        for page in first..first + device.block_pages {
+/// The pages that are moved.
+struct Moves {
+    logical_pages: [u32; BATCH],
+    sources: [u32; BATCH],
+    count: usize,
+}
+
+impl Moves {
+    fn none() -> Moves {
+        Moves {
+            logical_pages: [0; BATCH],
+            sources: [0; BATCH],
+            count: 0,
+        }
+    }
+
+    /// Adds the valid pages of a block, which has so many.
+    fn add(&mut self, device: &Numbers, groups: &[Part], area: &[u32], block: u32, valid: u16) {
+        let end = self.count + usize::from(valid);
+        let mut page = block * device.block_pages;
+        while self.count < end {
             let logical_page = spare::middle(device, area, page);
             if logical_page < device.logical_pages
                 && is_valid(device, groups, area, logical_page, page)
             {
-                (logical_pages[count], sources[count]) = (logical_page, page);
-                count += 1;
+                self.logical_pages[self.count] = logical_page;
+                self.sources[self.count] = page;
+                self.count += 1;
             }
+            page += 1;
         }
     }
-    sort_batch(&logical_pages[..count], sorted, plan);
-    for source in &mut plan[..count] {
-        *source = sources[*source as usize];
+
+    /// Writes the sources to the front of the plan in the order of their logical
+    /// pages, and answers these.
+    fn sorted(&self, plan: &mut [u32]) -> [u32; BATCH] {
+        let mut sorted = [0; BATCH];
+        sort_batch(&self.logical_pages[..self.count], &mut sorted, plan);
+        for source in &mut plan[..self.count] {
+            *source = self.sources[*source as usize];
+        }
+        sorted
     }
-    count
 }
 
-/// Whether lookup of the logical page that a page's middle entry names gives that
+/// Whether lookup of a logical page, which a page's middle entry names, gives that
 /// page.
 fn is_valid(device: &Numbers, groups: &[Part], area: &[u32], logical_page: u32, page: u32) -> bool {
     let offset = (logical_page % 256) as u8;

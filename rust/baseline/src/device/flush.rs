@@ -66,11 +66,9 @@ pub(super) fn store(
             runs[count] = run;
             count += 1;
         });
-        let batch = runs[..count].iter().map(|run| {
-            let taken = &written[usize::from(run.place)..][..usize::from(run.length)];
-            (run.record, members(run, taken))
+        group::take(&mut groups[group], &runs[..count], |run| {
+            members(run, &written[usize::from(run.place)..][..usize::from(run.length)])
         });
-        group::take(&mut groups[group], batch);
     }
     first
 }

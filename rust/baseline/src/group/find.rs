@@ -3,7 +3,7 @@
 use hedjosur_layout::Part;
 
 use super::part::{is_owned, level, name, owners, record, records, slots};
-use crate::stride::is_multiple;
+use crate::words::allows;
 use crate::record::Record;
 
 /// What a group says of an offset.
@@ -31,7 +31,7 @@ pub fn find(part: &Part, offset: u8) -> Found {
         let held = record(slot);
         let is_member = match held.is_approximate() {
             true => owner == name(held.start),
-            false => is_multiple(inside, (held.word / 2) as u8),
+            false => allows(held.word, inside),
         };
         if is_member {
             return Found {

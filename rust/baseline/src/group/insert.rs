@@ -1,130 +1,254 @@
-//! Inserting a record at level 0, and taking in a batch's records.
+//! Inserting records at level 0, and taking in a batch's records.
 
-use hedjosur_layout::Part;
+use std::ops::Range;
+
+use hedjosur_layout::{Part, SLOT_BYTES};
 use hedjosur_model::levels::GROUP_RECORDS;
 
 use super::compact::compact;
-use super::owners::{give_up, own, without};
-use super::part::{level, record, records, set_level, set_records, slot, slots, slots_mut, Slot};
+use super::owners::{disown, give_up, own};
+use super::part::{
+    is_owned, level, record, records, set_level, set_records, slot, slots, slots_mut, Slot,
+};
+use crate::learn::Run;
 use crate::offsets::Offsets;
 use crate::record::Record;
 
-/// Takes in a batch's records for this group, ascending, each with its members;
-/// the group is compacted first if it has no room for them.
-pub fn take(part: &mut Part, batch: impl ExactSizeIterator<Item = (Record, Offsets)>) {
-    if records(part) + batch.len() > GROUP_RECORDS {
+/// The most slots of a level: their ranges don't meet.
+const LEVEL_SLOTS: usize = 256;
+
+/// So many slots are rewritten mostly.
+const FEW: usize = 8;
+
+/// Takes in a batch's runs for this group, ascending; the group is compacted first if
+/// it has no room for them.
+pub fn take(part: &mut Part, runs: &[Run], members: impl Fn(&Run) -> Offsets) {
+    if records(part) + runs.len() > GROUP_RECORDS {
         compact(part);
     }
+    let approximate = |run: &Run| run.record.is_approximate();
+    if !is_owned(part) || !runs.iter().any(approximate) {
+        insert_all(part, 0, runs, &members);
+        for run in runs.iter().filter(|run| approximate(run)) {
+            own(part, members(run), run.record.start);
+        }
+        return;
+    }
     let mut from = 0;
-    for (record, members) in batch {
-        from = insert_from(part, from, record, members);
+    for run in runs {
+        let taken = members(run);
+        if approximate(run) {
+            give_up(part, taken);
+        }
+        from = insert_all(part, from, std::slice::from_ref(run), &|_: &Run| taken);
+        if approximate(run) {
+            own(part, taken, run.record.start);
+        }
     }
 }
 
 /// Inserts a record with its members into a group of fewer than 512 records.
-pub fn insert(part: &mut Part, new: Record, taken: Offsets) {
-    insert_from(part, 0, new, taken);
+pub fn insert(part: &mut Part, record: Record, members: Offsets) {
+    let run = Run {
+        record,
+        ..Run::default()
+    };
+    take(part, &[run], |_| members);
 }
 
-/// As [`insert`], where the slots before `from` are of level 0 and end before the
-/// new record; answers the place behind it.
-fn insert_from(part: &mut Part, from: usize, new: Record, taken: Offsets) -> usize {
-    if new.is_approximate() {
-        give_up(part, taken);
+/// Inserts runs, ascending, at level 0. The slots before `from` are of level 0 and end
+/// before them. Answers such a place for what comes behind them.
+fn insert_all(
+    part: &mut Part,
+    from: usize,
+    runs: &[Run],
+    members: &impl Fn(&Run) -> Offsets,
+) -> usize {
+    let (start, last) = match runs {
+        [] => return from,
+        [first, ..] => (first.record.start, runs[runs.len() - 1].record.last()),
+    };
+    let slots = &slots(part)[..records(part)];
+    let before = |slot: &Slot| level(slot) == 0 && record(slot).last() < start;
+    let from = from + slots[from..].partition_point(before);
+    let met = |slot: &&Slot| level(slot) == 0 && slot[0] <= last;
+    let to = from + match runs.len() {
+        1 => slots[from..].iter().take_while(met).count(),
+        _ => slots[from..].partition_point(|slot| met(&slot)),
+    };
+    if from == to {
+        return add(part, from, runs);
+    }
+    match to - from + runs.len() {
+        ..=FEW => rewrite::<FEW>(part, from..to, runs, members),
+        _ => rewrite::<LEVEL_SLOTS>(part, from..to, runs, members),
+    }
+}
+
+/// Puts runs that meet no slot of level 0 at their place there. Answers the place behind
+/// them.
+fn add(part: &mut Part, at: usize, runs: &[Run]) -> usize {
+    let (used, end) = (records(part), at + runs.len());
+    let slots = slots_mut(part);
+    slots.copy_within(at..used, end);
+    for (to, run) in slots[at..end].iter_mut().zip(runs) {
+        *to = slot(run.record, 0);
+    }
+    set_records(part, used + runs.len());
+    end
+}
+
+/// A list of at most so many slots.
+struct List<const ROOM: usize> {
+    slots: [Slot; ROOM],
+    count: usize,
+}
+
+impl<const ROOM: usize> List<ROOM> {
+    fn new() -> List<ROOM> {
+        List {
+            slots: [[0; SLOT_BYTES]; ROOM],
+            count: 0,
+        }
+    }
+
+    #[inline]
+    fn push(&mut self, slot: Slot) {
+        self.slots[self.count] = slot;
+        self.count += 1;
+    }
+
+    fn as_slice(&self) -> &[Slot] {
+        &self.slots[..self.count]
+    }
+}
+
+/// Inserts runs that meet no slot of level 0 but some of these.
+fn rewrite<const ROOM: usize>(
+    part: &mut Part,
+    places: Range<usize>,
+    runs: &[Run],
+    members: &impl Fn(&Run) -> Offsets,
+) -> usize {
+    let mut staying = List::<ROOM>::new();
+    let mut sinking = List::<ROOM>::new();
+    let mut at = places.start;
+    let mut pending = None;
+    for run in runs {
+        let new = run.record;
+        let taken = members(run);
+        loop {
+            let old = match pending.take() {
+                Some(old) => old,
+                None if at < places.end => {
+                    at += 1;
+                    slots(part)[at - 1]
+                }
+                None => break,
+            };
+            let victim = record(&old);
+            if victim.last() < new.start {
+                staying.push(old);
+                continue;
+            }
+            if victim.start > new.last() {
+                pending = Some(old);
+                break;
+            }
+            let left = match victim.is_approximate() {
+                false => victim.narrowed(victim.exact_members().without(taken)),
+                // It gave up what the new one takes.
+                true if new.is_approximate() => Some(victim),
+                true => disown(part, victim, taken),
+            };
+            match left {
+                None => {}
+                Some(left) if left.last() < new.start => staying.push(slot(left, 0)),
+                Some(left) if left.start > new.last() => {
+                    pending = Some(slot(left, 0));
+                    break;
+                }
+                Some(left) => sinking.push(slot(left, 1)),
+            }
+        }
+        staying.push(slot(new, 0));
+    }
+    let behind = places.start + staying.count;
+    if let Some(old) = pending {
+        staying.push(old);
     }
     let used = records(part);
-    let ends_before = |slot: &Slot| level(slot) == 0 && record(slot).last() < new.start;
-    let from = from + slots(part)[from..used].partition_point(ends_before);
-
-    // What is left of the victims stands from `from` to `left`. Only the first can
-    // end before the new record and stay, and only the last can start after it.
-    let (mut to, mut left) = (from, from);
-    let (mut before, mut after) = (0, 0);
-    while to < used {
-        let old = slots(part)[to];
-        let victim = record(&old);
-        if level(&old) != 0 || victim.start > new.last() {
-            break;
-        }
-        to += 1;
-        if let Some(shrunk) = without(part, victim, taken) {
-            before += usize::from(shrunk.last() < new.start);
-            after += usize::from(shrunk.start > new.last());
-            slots_mut(part)[left] = slot(shrunk, 0);
-            left += 1;
-        }
-    }
-    let sinking = left - from - before - after;
-    let slots = slots_mut(part);
-    let used = place(slots, used, new, from + before, left, to, sinking);
+    let used = put_back(&mut slots_mut(part)[..], used, places, staying.as_slice(), sinking.as_slice());
     set_records(part, used);
-    if new.is_approximate() {
-        own(part, taken, new.start);
-    }
-    from + before + 1
+    behind
 }
 
-/// Puts a record at its place in level 0, before the victims that are left up to
-/// `left` of those up to `to`. The first of them, so many, sink to level 1. Answers
-/// the slots used then.
-fn place(
-    slots: &mut [Slot],
-    mut used: usize,
-    new: Record,
-    at: usize,
-    left: usize,
-    to: usize,
-    sinking: usize,
-) -> usize {
-    let new = slot(new, 0);
-    let mut top = to;
-    if sinking > 0 {
-        top += slots[to..used].partition_point(|slot| level(slot) == 0);
+/// Replaces slots of level 0 by others that stay there and some that sink. Answers how
+/// many slots are used then.
+fn put_back(slots: &mut [Slot], used: usize, places: Range<usize>, staying: &[Slot], sinking: &[Slot]) -> usize {
+    let to = places.start + staying.len();
+    if sinking.is_empty() {
+        if to != places.end {
+            slots.copy_within(places.end..used, to);
+        }
+        slots[places.start..to].copy_from_slice(staying);
+        return used - places.end + to;
     }
-    let mut sinking = sinking;
-    if left < to {
-        // In the place of a victim that is gone.
-        slots[left] = new;
-        slots[at..=left].rotate_right(1);
-        slots.copy_within(to..used, left + 1);
-        let closed = to - left - 1;
-        (top, used) = (top - closed, used - closed);
-    } else if sinking == 0 {
-        slots.copy_within(at..used, at + 1);
-        slots[at] = new;
-        used += 1;
-    } else {
-        // In the place of the first that sinks.
-        let mut sunk = std::mem::replace(&mut slots[at], new);
-        let to = sink(&mut slots[..used], top, &sunk);
-        set_level(&mut sunk, 1);
-        slots.copy_within(to..used, to + 1);
-        slots[to] = sunk;
-        used += 1;
-        sinking -= 1;
+    let top = places.end + slots[places.end..used].partition_point(|slot| level(slot) == 0);
+    let top_after = top - places.end + to;
+    let below = top_after + sinking.len();
+    // Each part is moved before another is moved onto it.
+    if below > top {
+        slots.copy_within(top..used, below);
     }
-    for _ in 0..sinking {
-        let sunk = slots[at + 1];
-        let to = sink(&mut slots[..used], top, &sunk);
-        set_level(&mut slots[at + 1], 1);
-        slots[at + 1..to].rotate_left(1);
-        top -= 1;
+    if to != places.end {
+        slots.copy_within(places.end..top, to);
     }
+    if below < top {
+        slots.copy_within(top..used, below);
+    }
+    slots[places.start..to].copy_from_slice(staying);
+    let used = used - top + below;
+    settle(&mut slots[top_after..used], sinking);
     used
 }
 
-/// The place in level 1, which begins at `top`, for a slot that sinks. If it meets
-/// something there, a new level for it goes between.
-fn sink(slots: &mut [Slot], top: usize, sunk: &Slot) -> usize {
-    let sunk = record(sunk);
-    let ends_before = |slot: &Slot| level(slot) == 1 && record(slot).last() < sunk.start;
-    let at = top + slots[top..].partition_point(ends_before);
-    let next = slots.get(at).filter(|next| level(next) == 1);
-    if next.is_some_and(|next| record(next).start <= sunk.last()) {
-        for slot in &mut slots[top..] {
+/// Puts slots that sink, ascending, among those of level 1 and below, which stand
+/// behind as many free ones. They join level 1 up to the first that meets something
+/// there; that one opens a level between, and the rest join it there, because records
+/// that shared a level don't meet each other.
+fn settle(slots: &mut [Slot], sinking: &[Slot]) {
+    let mut from = sinking.len();
+    let mut joining = 0;
+    for slot in sinking {
+        let place = from + ending_before(&slots[from..], slot);
+        let next = slots.get(place).filter(|next| level(next) == 1);
+        if next.is_some_and(|next| next[0] <= record(slot).last()) {
+            break;
+        }
+        joining += 1;
+        from = place;
+    }
+    let (joining, opening) = sinking.split_at(joining);
+    let (opened, slots) = slots.split_at_mut(opening.len());
+    opened.copy_from_slice(opening);
+    let mut from = joining.len();
+    let mut to = 0;
+    for slot in joining {
+        let passed = ending_before(&slots[from..], slot);
+        slots.copy_within(from..from + passed, to);
+        slots[to + passed] = *slot;
+        (from, to) = (from + passed, to + passed + 1);
+    }
+    if !opened.is_empty() {
+        for slot in slots {
             set_level(slot, level(slot) + 1);
         }
-        return top;
     }
-    at
+}
+
+/// How many of these slots, from the left, are of level 1 and end before another.
+#[inline]
+fn ending_before(slots: &[Slot], other: &Slot) -> usize {
+    slots.partition_point(|slot| level(slot) == 1 && record(slot).last() < other[0])
 }

@@ -43,56 +43,54 @@ fn owned_by(owners: &[Owner; 64], name: Owner) -> u64 {
     })
 }
 
-/// What is left of a record of the group when it loses some offsets; the owners
-/// are brought up to date.
-#[inline]
-pub(super) fn without(part: &mut Part, record: Record, lost: Offsets) -> Option<Record> {
-    match record.is_approximate() {
-        true => disown(part, record, lost),
-        false => record.narrowed(record.exact_members().without(lost)),
-    }
-}
-
-/// As [`without`], for an approximate record.
-fn disown(part: &mut Part, record: Record, lost: Offsets) -> Option<Record> {
+/// What is left of an approximate record when it loses offsets that no record gets.
+pub(super) fn disown(part: &mut Part, record: Record, lost: Offsets) -> Option<Record> {
     let members = owned(part, record);
-    let remaining = members.without(lost);
-    if remaining == members {
-        return Some(record);
-    }
     set_owners(part, members & lost, NOBODY);
-    let left = record.narrowed(remaining);
-    match left {
-        Some(left) if left.start != record.start => {
-            set_owners(part, remaining, name(left.start));
-        }
-        Some(_) => {}
-        None if owners(part).iter().all(|&owner| owner == NOBODY) => set_owned(part, false),
-        None => {}
+    let left = rename(part, record, members.without(lost));
+    if left.is_none() && owners(part).iter().all(|&owner| owner == NOBODY) {
+        set_owned(part, false);
     }
     left
 }
 
-/// Every approximate record gives up these offsets; it shrinks or goes, and a
-/// level other than 0 that is left empty goes too.
+/// What is left of an approximate record with these members; if its start is another
+/// one, they get that as their owner.
+fn rename(part: &mut Part, record: Record, members: Offsets) -> Option<Record> {
+    let left = record.narrowed(members)?;
+    if left.start != record.start {
+        set_owners(part, members, name(left.start));
+    }
+    Some(left)
+}
+
+/// Every approximate record gives up these offsets, which a new one is to own; it
+/// shrinks or goes, and a level other than 0 that is left empty goes too. The
+/// offsets' own owners stay to be overwritten.
 pub(super) fn give_up(part: &mut Part, taken: Offsets) {
     if !is_owned(part) {
         return;
     }
-    let losing = taken.iter().filter_map(|offset| {
+    // Which owners lose, and how many of them are still to be found.
+    let mut losing = [false; 257];
+    losing[0] = true;
+    let mut count = 0;
+    for offset in taken.iter() {
         let owner = u16::from_le_bytes(owners(part)[usize::from(offset)]);
-        Some(owner.checked_sub(1)? as u8)
-    });
-    let mut losing: Offsets = losing.collect();
+        let known = std::mem::replace(&mut losing[usize::from(owner).min(256)], true);
+        count += usize::from(!known);
+    }
     let mut at = 0;
-    while !losing.is_empty() {
+    while count > 0 {
         let held = record(&slots(part)[at]);
-        if !held.is_approximate() || !losing.contains(held.start) {
+        // Without a branch for each: which kind of slot comes next is hard to predict.
+        if !(held.is_approximate() & losing[usize::from(held.start) + 1]) {
             at += 1;
             continue;
         }
-        losing.remove(held.start);
-        match disown(part, held, taken) {
+        count -= 1;
+        let remaining = owned(part, held).without(taken);
+        match rename(part, held, remaining) {
             Some(left) => {
                 let slot = &mut slots_mut(part)[at];
                 (slot[0], slot[1]) = (left.start, left.span);
@@ -118,8 +116,7 @@ fn remove(part: &mut Part, at: usize) {
     set_records(part, used - 1);
 }
 
-/// Makes the approximate record with this start the owner of offsets that nobody
-/// owns.
+/// Makes the approximate record with this start the owner of offsets.
 pub(super) fn own(part: &mut Part, offsets: Offsets, start: u8) {
     if !is_owned(part) {
         *owners_mut(part) = [NOBODY; 256];

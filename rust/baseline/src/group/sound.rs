@@ -3,9 +3,9 @@
 use hedjosur_layout::Part;
 use hedjosur_model::levels::GROUP_RECORDS;
 
-use super::part::{is_owned, level, name, owners, records, slots, Owners, Slot};
+use super::part::{is_owned, level, name, owners, records, slots, Owner, Owners, Slot, NOBODY};
 use crate::offsets::Offsets;
-use crate::stride::RECIPROCALS;
+use crate::words;
 
 /// Whether any bytes are a sound group's, of group `number` of a device with
 /// `logical_pages`.
@@ -14,106 +14,107 @@ pub fn sound(part: &Part, logical_pages: u32, number: u32) -> bool {
     if used > GROUP_RECORDS {
         return false;
     }
-    let offsets = logical_pages.saturating_sub(256 * number).min(256) as i32;
+    let offsets = logical_pages.saturating_sub(256 * number).min(256);
     let slots = &slots(part)[..used];
     match is_owned(part) {
-        false => plain(slots, offsets),
-        true => owned(slots, owners(part), offsets),
+        false => sound_without_owners(slots, offsets),
+        true => sound_with_owners(slots, owners(part), offsets),
     }
 }
 
-#[inline(never)]
-fn plain(slots: &[Slot], offsets: i32) -> bool {
-    let mut order = Order::new(offsets);
-    let mut words = 0;
-    for slot in slots {
-        let head = Head::of(slot);
-        order.check(&head);
-        order.passed &= head.remainder();
-        words |= head.word;
-    }
-    order.passed < 0 && words & !0x1FE == 0
+/// Whether slots are sound where nothing is owned: no record is approximate.
+fn sound_without_owners(slots: &[Slot], offsets: u32) -> bool {
+    let mut checks = Checks::new(offsets);
+    slots.iter().for_each(|slot| checks.check(slot));
+    checks.pass() && checks.words % 2 == 0
 }
 
-#[inline(never)]
-fn owned(slots: &[Slot], owners: &Owners, offsets: i32) -> bool {
-    let mut order = Order::new(offsets);
-    let mut ranges = [0u16; 256];
+/// Whether slots are sound and the owners fit them.
+fn sound_with_owners(slots: &[Slot], owners: &Owners, offsets: u32) -> bool {
+    let mut checks = Checks::new(offsets);
+    // The ranges of the approximate records, collected without a branch.
+    let mut ranges = [[0; 2]; 256];
     let mut count = 0;
     for slot in slots {
-        let head = Head::of(slot);
-        order.check(&head);
-        let odd = head.word & 1;
-        order.passed &= (head.remainder() | -odd) & (head.word - 514);
-        ranges[count % 256] = u16::from_le_bytes([slot[0], slot[1]]);
-        count += odd as usize;
+        checks.check(slot);
+        ranges[count % 256] = [slot[0], slot[1]];
+        count += usize::from(slot[2] % 2);
     }
-    if order.passed >= 0 || count > 256 {
-        return false;
-    }
+    checks.pass() && count <= 256 && owners_fit(&ranges[..count], owners)
+}
+
+/// Whether approximate records, each with its start and span, are the only ones with
+/// their starts and own their ends, and no offset has an owner but in the range of the
+/// record that it names: as many offsets are owned there as anywhere.
+fn owners_fit(ranges: &[[u8; 2]], owners: &Owners) -> bool {
     let mut starts = Offsets::NONE;
-    let mut named = 0u16;
-    for &range in &ranges[..count] {
-        let [start, span] = range.to_le_bytes();
+    let mut named = 0;
+    for &[start, span] in ranges {
         let name = name(start);
-        let range = &owners[usize::from(start)..=usize::from(start.wrapping_add(span))];
-        if starts.contains(start) || range[0] != name || range[range.len() - 1] != name {
+        named += match &owners[usize::from(start)..=usize::from(start + span)] {
+            [only] if *only == name => 1,
+            [first, inner @ .., last] if *first == name && *last == name => {
+                2 + count(inner, |owner| owner == name)
+            }
+            _ => return false,
+        };
+        if starts.contains(start) {
             return false;
         }
         starts.insert(start);
-        named += range.iter().fold(0, |n, &owner| n + u16::from(owner == name));
     }
-    named == owners.iter().fold(0, |n, &owner| n + u16::from(owner != [0; 2]))
+    named == count(owners, |owner| owner != NOBODY)
 }
 
-struct Head {
-    start: i32,
-    span: i32,
-    word: i32,
-    level: i32,
+/// How many owners a condition holds for.
+#[inline]
+fn count(owners: &[Owner], holds: impl Fn(Owner) -> bool) -> u16 {
+    owners
+        .iter()
+        .fold(0, |count, &owner| count + u16::from(holds(owner)))
 }
 
-impl Head {
-    #[inline(always)]
-    fn of(slot: &Slot) -> Head {
-        let [a, b, c, d, ..] = *slot;
-        let head = u32::from_le_bytes([a, b, c, d]);
-        Head {
-            start: (head & 0xFF) as i32,
-            span: (head >> 8 & 0xFF) as i32,
-            word: (head >> 16) as i32,
-            level: level(slot).into(),
-        }
-    }
-
-    /// Below 0 if the span is a multiple of the stride
-    #[inline(always)]
-    fn remainder(&self) -> i32 {
-        let reciprocal = RECIPROCALS[(self.word >> 1) as usize % 512];
-        (self.span * reciprocal & 0xFFFF) - reciprocal
-    }
-}
-
-#[derive(Debug)]
-struct Order {
+/// What is checked of each slot and of its order. There are no branches: which kind
+/// of slot comes next is hard to predict.
+struct Checks {
+    /// Below 0 as long as nothing failed.
     passed: i32,
+    /// All words, bit by bit.
+    words: i32,
+    /// The last place taken; places are numbered through the levels, 256 each.
     taken: i32,
-    level_bound: i32,
+    /// The first level that may not come next.
+    level_after: i32,
     offsets: i32,
 }
 
-impl Order {
-    fn new(offsets: i32) -> Order {
-        Order { passed: -1, taken: -1, level_bound: 1, offsets }
+impl Checks {
+    fn new(offsets: u32) -> Checks {
+        Checks {
+            passed: -1,
+            words: 0,
+            taken: -1,
+            level_after: 1,
+            offsets: offsets as i32,
+        }
     }
 
     #[inline(always)]
-    fn check(&mut self, head: &Head) {
-        let start = 256 * head.level + head.start;
-        self.passed &= (self.taken - start)
-            & (head.level - self.level_bound)
-            & (head.start + head.span - self.offsets);
-        self.taken = start + head.span;
-        self.level_bound = head.level + 2;
+    fn check(&mut self, slot: &Slot) {
+        let [start, span] = [slot[0], slot[1]].map(i32::from);
+        let word = i32::from(u16::from_le_bytes([slot[2], slot[3]]));
+        let level = i32::from(level(slot));
+        let place = 256 * level + start;
+        self.passed &= (self.taken - place)
+            & (level - self.level_after)
+            & (start + span - self.offsets)
+            & words::excess(word, span);
+        self.words |= word;
+        self.taken = place + span;
+        self.level_after = level + 2;
+    }
+
+    fn pass(&self) -> bool {
+        self.passed < 0 && self.words < 1024
     }
 }
