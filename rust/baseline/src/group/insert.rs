@@ -19,6 +19,7 @@ const LEVEL_SLOTS: usize = 256;
 
 /// So many slots are rewritten mostly.
 const FEW: usize = 8;
+const SOME: usize = 48;
 
 /// Takes in a batch's runs for this group, ascending; the group is compacted first if
 /// it has no room for them.
@@ -81,6 +82,7 @@ fn insert_all(
     }
     match to - from + runs.len() {
         ..=FEW => rewrite::<FEW>(part, from..to, runs, members),
+        ..=SOME => rewrite::<SOME>(part, from..to, runs, members),
         _ => rewrite::<LEVEL_SLOTS>(part, from..to, runs, members),
     }
 }

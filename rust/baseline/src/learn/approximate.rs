@@ -7,6 +7,9 @@ use std::ops::RangeInclusive;
 /// a group, so it is never the smallest of a longest run.
 const SLOPES: i32 = 256;
 
+/// How far ahead of the longest run so far a first guess looks.
+const AHEAD: usize = 12;
+
 /// How many slopes are tried at once.
 const LANES: usize = 16;
 
@@ -65,19 +68,25 @@ impl Ahead<'_> {
         if slopes.is_empty() {
             return None;
         }
-        // What slopes in the middle reach leaves fewer to be tried.
-        let middle = first_lane((slopes.start() + slopes.end()) / 2);
-        let by_middle = self.reach(middle, reached);
-        if let Some((end, _)) = by_middle.filter(|&(end, _)| end > reached + 1) {
+        let mut guess = None;
+        // Where even slope 0 gets half of the way, the first slopes are as good a guess.
+        if self.end - self.place > 4 * self.bound as usize + 2 {
+            let ahead = self.slopes_to((reached + AHEAD).min(self.end - 1));
+            let middle = (ahead.start() + ahead.end()) / 2;
+            let slope = first_lane(middle.clamp(*slopes.start(), *slopes.end()));
+            guess = self.reach(slope, reached).map(|found| (slope, found));
+        }
+        // What is reached leaves fewer slopes to be tried.
+        if let Some((_, (end, _))) = guess.filter(|(_, (end, _))| *end > reached + 1) {
             reached = end - 1;
             slopes = self.slopes_to(reached);
         }
         let mut best = None;
         let mut slope = first_lane(*slopes.start());
         while slope <= *slopes.end() {
-            let found = match slope == middle {
-                true => by_middle,
-                false => self.reach(slope, reached),
+            let found = match guess {
+                Some((guessed, found)) if guessed == slope => Some(found),
+                _ => self.reach(slope, reached),
             };
             if let Some((end, leads)) = found.filter(|&(end, _)| end > reached) {
                 reached = end;
