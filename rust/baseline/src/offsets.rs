@@ -127,10 +127,18 @@ impl Offsets {
             return None;
         }
         let (low, high, from) = if a | b != 0 { (a, b, 0) } else { (c, d, 128) };
-        let (word, from) = if low != 0 { (low, from) } else { (high, from + 64) };
+        let (word, from) = if low != 0 {
+            (low, from)
+        } else {
+            (high, from + 64)
+        };
         let first = from + word.trailing_zeros();
         let (low, high, from) = if c | d != 0 { (c, d, 128) } else { (a, b, 0) };
-        let (word, from) = if high != 0 { (high, from + 64) } else { (low, from) };
+        let (word, from) = if high != 0 {
+            (high, from + 64)
+        } else {
+            (low, from)
+        };
         let last = from + 63 - word.leading_zeros();
         Some((first as u8, last as u8))
     }

@@ -85,8 +85,8 @@ impl Record {
         let rise = match self.word {
             0 => 0,
             2 => offset,
-            _ if self.is_approximate() => (factor * offset + 255) / 256,
-            _ => (offset + factor - 1) / factor,
+            _ if self.is_approximate() => (factor * offset + 255) >> 8,
+            _ => offset.div_ceil(factor),
         };
         (self.intercept as u32).wrapping_add(rise)
     }

@@ -29,7 +29,7 @@ const fn factors() -> [i32; WORDS] {
 #[inline(always)]
 pub fn excess(word: i32, distance: i32) -> i32 {
     let factor = FACTORS[word as usize % WORDS];
-    (distance * factor & 0xFFFF) - factor
+    ((distance * factor) & 0xFFFF) - factor
 }
 
 /// Whether a word that is tabled allows a distance between members.

@@ -20,10 +20,11 @@ type Learn = fn(written: &[u32], first: u32, bound: u32, out: &mut [u8]) -> usiz
 /// Sorting, by the baseline or the proved code.
 type Sort = fn(batch: &[u32], pages: &mut [u32], sources: &mut [u32]) -> usize;
 
-/// A pattern's name and one of its batches.
-type Pattern = (&'static str, fn(&mut Random) -> Vec<u32>);
+/// A pattern's name, and what makes one of its batches.
+pub type Pattern = (&'static str, fn(&mut Random) -> Vec<u32>);
 
-const LEARNED: [Pattern; 4] = [
+/// Ascending batches below logical page 2,048.
+pub const LEARNED: [Pattern; 4] = [
     ("sequential", |random| {
         let first = random.below(768);
         (first..first + 256).collect()
@@ -69,7 +70,7 @@ fn ascending(random: &mut Random) -> impl DoubleEndedIterator<Item = u32> {
 }
 
 /// The inputs of a pattern; each pattern has the same ones in every run.
-fn inputs((_, batch): Pattern) -> Vec<Vec<u32>> {
+pub fn inputs((_, batch): Pattern) -> Vec<Vec<u32>> {
     (0..INPUTS)
         .map(|seed| batch(&mut Random::new(seed)))
         .collect()

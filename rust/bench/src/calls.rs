@@ -12,11 +12,12 @@ use hedjosur_model::spare;
 use hedjosur_model::state::State;
 use hedjosur_model::testing::{batch, full_device, lists, Random};
 
-use crate::groups::{group_of, records, SIZES};
+use crate::batches::{inputs, LEARNED};
+use crate::kinds::{self, Kind, MIXED};
 use crate::print;
 use crate::timing::compare;
 
-/// How many groups of a size take turns.
+/// How many groups of a kind take turns.
 const GROUPS: u64 = 16;
 
 /// All that is lent to the calls on a device.
@@ -52,6 +53,20 @@ impl Buffers {
         buffers
     }
 
+    /// A device whose blocks are free and whose groups hold many records.
+    fn crowded(device: &Device) -> Buffers {
+        let random = &mut Random::new(0);
+        let state = State {
+            numbers: device.numbers(),
+            counts: vec![0; device.blocks as usize],
+            groups: (0..device.groups())
+                .map(|_| kinds::crowded(random))
+                .collect(),
+        };
+        let state = encode_state(&state, || 0).expect("a state with bytes");
+        Buffers::new(device, state, vec![spare::NOBODY; device.spare_length()])
+    }
+
     fn format(&mut self, calls: &dyn Calls, numbers: [u32; 4]) -> Result<(), Refusal> {
         calls.format(&mut self.state, &mut self.area, numbers)
     }
@@ -80,7 +95,7 @@ impl Buffers {
     }
 }
 
-/// A device of one group of this many records, and logical pages to look up.
+/// A device of one group of a kind, and logical pages to look up.
 struct Lookups {
     buffers: Buffers,
     pages: Vec<u32>,
@@ -89,13 +104,13 @@ struct Lookups {
 impl Lookups {
     /// A group's records predict pages, and the spare area names as many logical
     /// pages as it can where they are predicted.
-    fn new(size: usize, bound: u32, seed: u64) -> Lookups {
+    fn new((_, group): Kind, bound: u32, seed: u64) -> Lookups {
         let random = &mut Random::new(seed);
         let device = full_device(9, 64, bound);
         let state = State {
             numbers: device.numbers(),
             counts: vec![64; 9],
-            groups: vec![group_of(size, random)],
+            groups: vec![group(random)],
         };
         let mut area = vec![spare::NOBODY; device.spare_length()];
         for offset in 0..=255 {
@@ -118,39 +133,39 @@ impl Lookups {
     }
 }
 
-/// Times lookups in groups of several sizes, for several error bounds.
+/// Times lookups in groups of all kinds, and in some for other error bounds.
 pub fn lookup() {
-    for bound in [0, 1, 4] {
-        for size in SIZES {
-            let mut work: Vec<Lookups> = (0..GROUPS)
-                .map(|seed| Lookups::new(size, bound, seed))
-                .collect();
-            let lookups = work.iter().map(|one| one.pages.len()).sum();
-            let times = compare(
-                &mut work,
-                lookups,
-                |_| (),
-                |work| {
-                    for Lookups { buffers, pages } in work {
-                        for &page in pages.iter() {
-                            let _ = black_box(device::lookup(&buffers.state, &buffers.area, page));
-                        }
+    let mixed = |bound| MIXED.into_iter().map(move |kind| (kind, bound));
+    let all = kinds::all().map(|kind| (kind, 1));
+    for (kind, bound) in mixed(0).chain(all).chain(mixed(4)) {
+        let mut work: Vec<Lookups> = (0..GROUPS)
+            .map(|seed| Lookups::new(kind, bound, seed))
+            .collect();
+        let lookups = work.iter().map(|one| one.pages.len()).sum();
+        let times = compare(
+            &mut work,
+            lookups,
+            |_| (),
+            |work| {
+                for Lookups { buffers, pages } in work {
+                    for &page in pages.iter() {
+                        let _ = black_box(device::lookup(&buffers.state, &buffers.area, page));
                     }
-                },
-                |work| {
-                    for Lookups { buffers, pages } in work {
-                        let device = hedjosur::Device {
-                            state: &buffers.state[..],
-                            spare: &buffers.area[..],
-                        };
-                        for &page in pages.iter() {
-                            let _ = black_box(device.lookup(page));
-                        }
+                }
+            },
+            |work| {
+                for Lookups { buffers, pages } in work {
+                    let device = hedjosur::Device {
+                        state: &buffers.state[..],
+                        spare: &buffers.area[..],
+                    };
+                    for &page in pages.iter() {
+                        let _ = black_box(device.lookup(page));
                     }
-                },
-            );
-            print("lookup", &format!("{}, g {bound}", records(size)), times);
-        }
+                }
+            },
+        );
+        print("lookup", &format!("{}, g {bound}", kind.0), times);
     }
 }
 
@@ -215,21 +230,46 @@ fn restore<T: Copy>(before: &[T], now: &mut [T], pieces: &[usize]) {
 
 /// Times a call on these buffers.
 fn time(function: &str, input: &str, before: Buffers, call: impl Fn(&dyn Calls, &mut Buffers)) {
+    time_each(function, input, &before, &[()], |calls, buffers, ()| {
+        call(calls, buffers);
+    });
+}
+
+/// Times a call with each of these arguments, each time on the same buffers.
+fn time_each<T>(
+    function: &str,
+    input: &str,
+    before: &Buffers,
+    arguments: &[T],
+    call: impl Fn(&dyn Calls, &mut Buffers, &T),
+) {
+    let changed = arguments.iter().map(|argument| {
+        let call = |calls: &dyn Calls, buffers: &mut Buffers| call(calls, buffers, argument);
+        Changed::new(before.clone(), &call)
+    });
+    let run = |calls: &'static dyn Calls| {
+        let call = &call;
+        move |work: &mut Vec<Changed>| {
+            for (changed, argument) in work.iter_mut().zip(arguments) {
+                call(calls, &mut changed.now, argument);
+            }
+        }
+    };
     let times = compare(
-        &mut Changed::new(before, &call),
-        1,
-        Changed::restore,
-        |changed| call(&Baseline, &mut changed.now),
-        |changed| call(&Exported, &mut changed.now),
+        &mut changed.collect(),
+        arguments.len(),
+        |work: &mut Vec<Changed>| work.iter_mut().for_each(Changed::restore),
+        run(&Baseline),
+        run(&Exported),
     );
     print(function, input, times);
 }
 
 /// Times the compaction of one group.
 pub fn compaction() {
-    for size in SIZES {
-        let before = Lookups::new(size, 1, size as u64).buffers;
-        time("compaction", &records(size), before, |calls, buffers| {
+    for kind in kinds::all() {
+        let before = Lookups::new(kind, 1, 0).buffers;
+        time("compaction", kind.0, before, |calls, buffers| {
             assert!(buffers.compact(calls, 0).is_ok());
         });
     }
@@ -264,6 +304,32 @@ pub fn flush() {
                 time("flush", &input, before.clone(), |calls, buffers| {
                     assert!(buffers.flush(calls, &batch).is_ok());
                 });
+            }
+        }
+    }
+}
+
+/// Times flushes of patterns, for several error bounds: on a new device, and into
+/// groups that hold many records.
+pub fn flush_of_patterns() {
+    let patterns = LEARNED.into_iter().filter(|(name, _)| *name != "strided");
+    for pattern in patterns {
+        let batches = inputs(pattern);
+        for bound in [0, 1, 4, 15] {
+            let device = full_device(17, 256, bound);
+            let fresh = Buffers::used(&device, 0);
+            let crowded = Buffers::crowded(&device);
+            for (name, before) in [("fresh", fresh), ("crowded", crowded)] {
+                let input = format!("{name}, {}, g {bound}", pattern.0);
+                time_each(
+                    "flush",
+                    &input,
+                    &before,
+                    &batches,
+                    |calls, buffers, batch| {
+                        assert!(buffers.flush(calls, batch).is_ok());
+                    },
+                );
             }
         }
     }

@@ -9,10 +9,10 @@ use hedjosur_baseline::record::Record;
 use hedjosur_conformance::inputs::{all_offsets, mask_of};
 use hedjosur_conformance::subjects::{Baseline, Subject};
 use hedjosur_layout::{encode_group, encode_record, Part, GROUP_BYTES};
-use hedjosur_model::levels::Group;
 use hedjosur_model::testing::{any_record, Random};
 use hedjosur_probe_sys as probe;
 
+use crate::kinds::{self, Kind};
 use crate::print;
 use crate::timing::compare;
 
@@ -25,52 +25,23 @@ type Find = fn(part: &Part, offset: u8) -> probe::Found;
 /// Compaction, by the baseline or the proved code.
 type Compact = fn(part: &mut Part) -> usize;
 
-/// How many groups of a size take turns.
+/// How many groups of a kind take turns.
 const GROUPS: u64 = 16;
 
-/// The sizes of the groups, in records.
-pub const SIZES: [usize; 4] = [1, 8, 64, 512];
-
-/// A sound group of this many records of all kinds.
-pub fn group_of(size: usize, random: &mut Random) -> Group {
-    let mut group = Group::default();
-    let mut unowned = all_offsets();
-    while group.size() < size {
-        let mut level = Vec::new();
-        let mut next = random.below(8);
-        while next <= 255 && group.size() + level.len() < size {
-            let record = any_record(random, next as u8, 255, &unowned);
-            unowned = &unowned - &record.owns;
-            next = record.last() + random.between(1, 8);
-            level.push(record);
-        }
-        group.levels.push(level);
-    }
-    group
-}
-
-/// The groups of a size, in bytes; the same ones in every run.
-fn groups_of(size: usize) -> Vec<Part> {
+/// The groups of a kind, in bytes; the same ones in every run.
+fn groups_of((_, group): Kind) -> Vec<Part> {
     let parts = (0..GROUPS).map(|seed| {
         let mut bytes = [0; GROUP_BYTES];
-        let group = group_of(size, &mut Random::new(seed));
+        let group = group(&mut Random::new(seed));
         assert!(encode_group(&group, &mut bytes) && group::sound(&bytes, 256, 0));
         bytes
     });
     parts.collect()
 }
 
-/// An input's name in the table.
-pub fn records(size: usize) -> String {
-    match size {
-        1 => "1 record".to_string(),
-        _ => format!("{size} records"),
-    }
-}
-
 /// Times the check of soundness.
 pub fn soundness() {
-    for size in SIZES {
+    for kind in kinds::all() {
         let run = |sound: Sound| {
             move |groups: &mut Vec<Part>| {
                 for part in groups {
@@ -79,19 +50,19 @@ pub fn soundness() {
             }
         };
         let times = compare(
-            &mut groups_of(size),
+            &mut groups_of(kind),
             GROUPS as usize,
             |_| (),
             run(group::sound),
             run(probe::sound),
         );
-        print("sound", &records(size), times);
+        print("sound", kind.0, times);
     }
 }
 
 /// Times the check of soundness and finding one offset.
 pub fn finding() {
-    for size in SIZES {
+    for kind in kinds::all() {
         let mut random = Random::new(0);
         let offsets: Vec<u8> = (0..GROUPS).map(|_| random.bits() as u8).collect();
         let run = |find: Find| {
@@ -103,13 +74,13 @@ pub fn finding() {
             }
         };
         let times = compare(
-            &mut groups_of(size),
+            &mut groups_of(kind),
             GROUPS as usize,
             |_| (),
             run(find),
             run(probe::find),
         );
-        print("find", &records(size), times);
+        print("find", kind.0, times);
     }
 }
 
@@ -143,8 +114,8 @@ struct Changed {
 }
 
 impl Changed {
-    fn new(size: usize) -> Changed {
-        let before = groups_of(size);
+    fn new(kind: Kind) -> Changed {
+        let before = groups_of(kind);
         let now = before.clone();
         Changed { before, now }
     }
@@ -154,11 +125,10 @@ impl Changed {
     }
 }
 
-/// Times the check of soundness and inserting one record; the largest groups
-/// have room for just one.
+/// Times the check of soundness and inserting one record, where there is room.
 pub fn insertion() {
-    for size in SIZES.map(|size| size.min(511)) {
-        let mut random = Random::new(size as u64);
+    for kind in kinds::with_room() {
+        let mut random = Random::new(7);
         let records_in: Vec<New> = (0..GROUPS).map(|_| any_new(&mut random)).collect();
         let baseline = |groups: &mut Changed| {
             for (part, new) in groups.now.iter_mut().zip(&records_in) {
@@ -173,19 +143,19 @@ pub fn insertion() {
             }
         };
         let times = compare(
-            &mut Changed::new(size),
+            &mut Changed::new(kind),
             GROUPS as usize,
             Changed::restore,
             baseline,
             proved,
         );
-        print("insert", &records(size), times);
+        print("insert", kind.0, times);
     }
 }
 
 /// Times the check of soundness and compaction.
 pub fn compaction() {
-    for size in SIZES {
+    for kind in kinds::all() {
         let run = |compact: Compact| {
             move |groups: &mut Changed| {
                 for part in &mut groups.now {
@@ -194,13 +164,13 @@ pub fn compaction() {
             }
         };
         let times = compare(
-            &mut Changed::new(size),
+            &mut Changed::new(kind),
             GROUPS as usize,
             Changed::restore,
             run(compact),
             run(probe::compact),
         );
-        print("compact", &records(size), times);
+        print("compact", kind.0, times);
     }
 }
 

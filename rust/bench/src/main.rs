@@ -10,6 +10,7 @@
 mod batches;
 mod calls;
 mod groups;
+mod kinds;
 mod timing;
 
 use timing::Comparison;
@@ -29,6 +30,7 @@ fn main() {
     calls::compaction();
     calls::format();
     calls::flush();
+    calls::flush_of_patterns();
     calls::collection();
     calls::agreement();
 }

@@ -52,3 +52,33 @@ fn random_histories() {
 fn arbitrary_states() {
     arguments::check_arbitrary_states(&Baseline, 300);
 }
+
+#[test]
+fn script() {
+    histories::check_script(&Baseline);
+}
+
+#[test]
+fn crowded_groups() {
+    histories::check_crowded_groups(&Baseline);
+}
+
+#[test]
+fn the_largest_device() {
+    histories::check_largest_device(&Baseline);
+}
+
+#[test]
+fn wrong_lengths() {
+    arguments::check_wrong_lengths(&Baseline);
+}
+
+#[test]
+fn numbers_at_their_limits() {
+    arguments::check_limits(&Baseline);
+}
+
+#[test]
+fn arguments_at_their_limits() {
+    arguments::check_arguments(&Baseline);
+}

@@ -1,6 +1,7 @@
 //! Collection.
 
 use hedjosur_layout::Part;
+use hedjosur_model::device::{group_of, offset_of};
 use hedjosur_model::ops::{Collected, Refusal};
 
 use super::flush::store;
@@ -26,8 +27,9 @@ pub fn collect(
     erased: &mut [u32],
 ) -> Result<Collected, Refusal> {
     let device = open_with(state, area)?;
-    require(plan.len() == device.block_pages as usize, Refusal::BadLength)?;
-    require(erased.len() == device.blocks as usize, Refusal::BadLength)?;
+    let [plan_length, erased_length] = [device.block_pages, device.blocks].map(|n| n as usize);
+    require(plan.len() == plan_length, Refusal::BadLength)?;
+    require(erased.len() == erased_length, Refusal::BadLength)?;
     require(is_sound(&device, state), Refusal::NotSound)?;
     let (counts, groups) = regions(&device, state);
     let tally = tally(&device, groups, area);
@@ -72,8 +74,8 @@ fn tally(device: &Numbers, groups: &[Part], area: &[u32]) -> Tally {
         group::predict(part, &mut pages);
         for (&predicted, logical_page) in pages.iter().zip(256 * number..) {
             if let Some(page) = valid_page(device, area, predicted, logical_page) {
-                let block = (u64::from(page) * reciprocal >> 32) as usize;
-                tally[block % BLOCKS] += 1;
+                let block = (u64::from(page) * reciprocal) >> 32;
+                tally[block as usize % BLOCKS] += 1;
             }
         }
     }
@@ -91,8 +93,8 @@ fn valid_page(device: &Numbers, area: &[u32], predicted: u32, logical_page: u32)
 /// The order in which used blocks are taken: fewest valid pages first, then lowest
 /// number.
 struct Order {
-    /// For each number of valid pages, the places in the order of the blocks with so
-    /// many: the next and the last but one.
+    /// For each number of valid pages, where the blocks with so many that are taken
+    /// stand in the order: the next place, and that behind the last.
     places: [(u16, u16); 257],
     /// How many blocks are taken.
     taken: usize,
@@ -102,9 +104,9 @@ struct Order {
 
 impl Order {
     fn of(device: &Numbers, counts: &[Count], tally: &Tally) -> Order {
-        let mut blocks = [0; 257];
-        for (_, &valid) in used(counts, tally) {
-            blocks[usize::from(valid)] += 1;
+        let mut blocks_with = [0; 257];
+        for (_, valid) in used(counts, tally) {
+            blocks_with[usize::from(valid)] += 1;
         }
         let mut order = Order {
             places: [(0, 0); 257],
@@ -112,7 +114,7 @@ impl Order {
             valid: 0,
         };
         let mut room = device.block_pages as usize;
-        for (valid, (place, &blocks)) in order.places.iter_mut().zip(&blocks).enumerate() {
+        for (valid, (place, &blocks)) in order.places.iter_mut().zip(&blocks_with).enumerate() {
             let fitting = match valid * blocks <= room {
                 true => blocks,
                 false => room / valid,
@@ -130,7 +132,7 @@ impl Order {
 
     /// Writes the blocks that are taken to the front of `erased`.
     fn list(&mut self, counts: &[Count], tally: &Tally, erased: &mut [u32]) {
-        for (block, &valid) in used(counts, tally) {
+        for (block, valid) in used(counts, tally) {
             let (next, end) = &mut self.places[usize::from(valid)];
             if next < end {
                 erased[usize::from(*next)] = block;
@@ -141,9 +143,9 @@ impl Order {
 }
 
 /// The used blocks and their valid pages.
-fn used<'a>(counts: &'a [Count], tally: &'a Tally) -> impl Iterator<Item = (u32, &'a u16)> {
-    let blocks = counts.iter().zip((0..).zip(tally));
-    blocks.filter(|(&count, _)| count != FREE).map(|(_, block)| block)
+fn used<'a>(counts: &'a [Count], tally: &'a Tally) -> impl Iterator<Item = (u32, u16)> + 'a {
+    let blocks = counts.iter().zip(tally).zip(0..);
+    blocks.filter_map(|((&count, &valid), block)| (count != FREE).then_some((block, valid)))
 }
 
 /// The pages that are moved.
@@ -168,9 +170,8 @@ impl Moves {
         let mut page = block * device.block_pages;
         while self.count < end {
             let logical_page = spare::middle(device, area, page);
-            if logical_page < device.logical_pages
-                && is_valid(device, groups, area, logical_page, page)
-            {
+            let exists = logical_page < device.logical_pages;
+            if exists && is_at(device, groups, area, logical_page, page) {
                 self.logical_pages[self.count] = logical_page;
                 self.sources[self.count] = page;
                 self.count += 1;
@@ -191,11 +192,10 @@ impl Moves {
     }
 }
 
-/// Whether lookup of a logical page, which a page's middle entry names, gives that
-/// page.
-fn is_valid(device: &Numbers, groups: &[Part], area: &[u32], logical_page: u32, page: u32) -> bool {
-    let offset = (logical_page % 256) as u8;
-    let found = group::find(&groups[(logical_page / 256) as usize], offset);
+/// Whether lookup of a logical page gives a page.
+fn is_at(device: &Numbers, groups: &[Part], area: &[u32], logical_page: u32, page: u32) -> bool {
+    let offset = offset_of(logical_page);
+    let found = group::find(&groups[group_of(logical_page)], offset);
     found.record.is_some_and(|record| {
         resolve(device, area, record.predicted(offset), logical_page) == Some(page)
     })

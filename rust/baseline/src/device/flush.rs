@@ -1,5 +1,6 @@
 //! Flush, and the block that it and a collection write.
 
+use hedjosur_model::device::{group_of, offset_of};
 use hedjosur_model::ops::{Flushed, Refusal};
 
 use super::numbers::Numbers;
@@ -60,24 +61,25 @@ pub(super) fn store(
     let mut learner = Learner::new(written, first, device.bound);
     let mut runs = [Run::default(); BATCH];
     for part in parts(written) {
-        let group = (written[part.start] / 256) as usize;
+        let group = &mut groups[group_of(written[part.start])];
         let mut count = 0;
         learner.learn(part, |run| {
             runs[count] = run;
             count += 1;
         });
-        group::take(&mut groups[group], &runs[..count], |run| {
-            members(run, &written[usize::from(run.place)..][..usize::from(run.length)])
-        });
+        group::take(group, &runs[..count], |run| members(run, written));
     }
     first
 }
 
 /// The members of a run's record.
 #[inline]
-fn members(run: &Run, taken: &[u32]) -> Offsets {
+fn members(run: &Run, written: &[u32]) -> Offsets {
     match run.record.is_approximate() {
-        true => taken.iter().map(|&page| (page % 256) as u8).collect(),
+        true => {
+            let taken = &written[usize::from(run.place)..][..usize::from(run.length)];
+            taken.iter().map(|&page| offset_of(page)).collect()
+        }
         false => run.record.exact_members(),
     }
 }

@@ -1,5 +1,6 @@
 //! Lookup.
 
+use hedjosur_model::device::{group_of, offset_of};
 use hedjosur_model::ops::{Lookup, Refusal};
 
 use super::numbers::Numbers;
@@ -11,12 +12,12 @@ use crate::group::{self, Found};
 pub fn lookup(state: &[u8], area: &[u32], logical_page: u32) -> Result<Lookup, Refusal> {
     let device = open_with(state, area)?;
     require(logical_page < device.logical_pages, Refusal::OutOfRange)?;
-    let number = logical_page / 256;
     let (_, groups) = regions(&device, state);
-    let part = &groups[number as usize];
-    let sound = group::sound(part, device.logical_pages, number);
+    let number = group_of(logical_page);
+    let part = &groups[number];
+    let sound = group::sound(part, device.logical_pages, number as u32);
     require(sound, Refusal::NotSound)?;
-    let offset = (logical_page % 256) as u8;
+    let offset = offset_of(logical_page);
     let Found { record, levels } = group::find(part, offset);
     let levels = levels.into();
     let Some(record) = record else {

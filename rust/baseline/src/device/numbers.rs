@@ -1,6 +1,7 @@
 //! The device's numbers and what follows from them.
 
 use hedjosur_layout::{COUNT_BYTES, GROUP_BYTES, HEAD_BYTES};
+use hedjosur_model::device::GROUP_PAGES;
 
 /// M, B, N and g, inside their limits.
 #[derive(Clone, Copy, Debug)]
@@ -37,7 +38,7 @@ impl Numbers {
     /// The number of groups.
     #[inline]
     pub fn groups(&self) -> usize {
-        self.logical_pages.div_ceil(256) as usize
+        self.logical_pages.div_ceil(GROUP_PAGES) as usize
     }
 
     /// The spare entries of a page.

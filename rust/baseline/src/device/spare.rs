@@ -8,12 +8,11 @@ use crate::sort::BATCH;
 /// The greatest error bound.
 const MOST_BOUND: usize = 15;
 
-/// The logical pages of a block, with as many entries that name nobody around them
-/// as the bound may be.
-type Around = [u32; BATCH + 2 * MOST_BOUND];
+/// Writes the entries of a block's first pages; see [`program`].
+type Program = fn(entries: &mut [u32], around: &[u32]);
 
-/// For each error bound, what writes the entries of the first pages of a block.
-static PROGRAM: [fn(&mut [u32], &[u32]); MOST_BOUND + 1] = [
+/// For each error bound, its [`program`]: the compiler knows how many entries it copies.
+static PROGRAMS: [Program; MOST_BOUND + 1] = [
     program::<1>,
     program::<3>,
     program::<5>,
@@ -49,13 +48,10 @@ pub(super) fn write(device: &Numbers, area: &mut [u32], block: usize, written: &
     let entries = block_entries(device, area, block);
     let (programmed, erased) = entries.split_at_mut(written.len() * device.width());
     erased.fill(NOBODY);
-    if bound == 0 {
-        programmed.copy_from_slice(written);
-        return;
-    }
-    let mut around: Around = [NOBODY; BATCH + 2 * MOST_BOUND];
+    // What was written, with as many entries that name nobody around it as are needed.
+    let mut around = [NOBODY; BATCH + 2 * MOST_BOUND];
     around[bound..][..written.len()].copy_from_slice(written);
-    PROGRAM[bound](programmed, &around);
+    PROGRAMS[bound](programmed, &around);
 }
 
 /// Writes the entries of a block's first pages, so many each: entry j of page i is

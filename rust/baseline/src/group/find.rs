@@ -3,8 +3,8 @@
 use hedjosur_layout::Part;
 
 use super::part::{is_owned, level, name, owners, record, records, slots};
-use crate::words::allows;
 use crate::record::Record;
+use crate::words::allows;
 
 /// What a group says of an offset.
 #[derive(Clone, Copy, Debug, PartialEq, Eq)]

@@ -80,11 +80,13 @@ pub(super) fn give_up(part: &mut Part, taken: Offsets) {
         let known = std::mem::replace(&mut losing[usize::from(owner).min(256)], true);
         count += usize::from(!known);
     }
+    losing[0] = false;
     let mut at = 0;
     while count > 0 {
         let held = record(&slots(part)[at]);
-        // Without a branch for each: which kind of slot comes next is hard to predict.
-        if !(held.is_approximate() & losing[usize::from(held.start) + 1]) {
+        // One branch for both: which kind of slot comes next is hard to predict.
+        let owner = (usize::from(held.start) + 1) * usize::from(held.word % 2);
+        if !losing[owner] {
             at += 1;
             continue;
         }
@@ -107,7 +109,8 @@ fn remove(part: &mut Part, at: usize) {
     let slots = &mut slots_mut(part)[..used];
     let own = level(&slots[at]);
     let has_level = |at: usize| slots.get(at).is_some_and(|slot| level(slot) == own);
-    if own > 0 && !has_level(at - 1) && !has_level(at + 1) {
+    let has_other = at.checked_sub(1).is_some_and(has_level) || has_level(at + 1);
+    if own > 0 && !has_other {
         for slot in &mut slots[at + 1..] {
             set_level(slot, level(slot) - 1);
         }

@@ -53,7 +53,7 @@ fn predict_owned(part: &Part, held: Record, predictions: &mut Predictions) {
     let owners = &owners(part)[covered.clone()];
     let covered = predictions[covered].iter_mut().zip(owners);
     for ((to, &owner), offset) in covered.zip(u32::from(held.start)..) {
-        let rise = (slope * offset + 255) / 256;
+        let rise = (slope * offset + 255) >> 8;
         let predicted = intercept.wrapping_add(rise).min(OUTSIDE);
         *to = if owner == name { predicted } else { *to };
     }

@@ -51,17 +51,15 @@ fn owners_fit(ranges: &[[u8; 2]], owners: &Owners) -> bool {
     let mut named = 0;
     for &[start, span] in ranges {
         let name = name(start);
-        named += match &owners[usize::from(start)..=usize::from(start + span)] {
-            [only] if *only == name => 1,
-            [first, inner @ .., last] if *first == name && *last == name => {
-                2 + count(inner, |owner| owner == name)
-            }
-            _ => return false,
-        };
-        if starts.contains(start) {
+        let (first, last) = (usize::from(start), usize::from(start + span));
+        if starts.contains(start) | (owners[first] != name) | (owners[last] != name) {
             return false;
         }
         starts.insert(start);
+        named += match usize::from(span) {
+            ..LANES => count_in_one(owners, first, span.into(), name),
+            _ => count(&owners[first..=last], |owner| owner == name),
+        };
     }
     named == count(owners, |owner| owner != NOBODY)
 }
@@ -72,6 +70,23 @@ fn count(owners: &[Owner], holds: impl Fn(Owner) -> bool) -> u16 {
     owners
         .iter()
         .fold(0, |count, &owner| count + u16::from(holds(owner)))
+}
+
+/// How many owners are counted together.
+const LANES: usize = 16;
+
+/// How many of the owners from `first` on, less than [`LANES`] more than one, have this
+/// name: as many are always looked at, as the length of short ranges is hard to
+/// predict.
+#[inline]
+fn count_in_one(owners: &Owners, first: usize, span: u16, name: Owner) -> u16 {
+    let from = first.min(owners.len() - LANES);
+    let window = owners[from..].iter().zip(0..LANES as u16);
+    let skipped = (first - from) as u16;
+    window.fold(0, |count, (&owner, lane)| {
+        let inside = lane.wrapping_sub(skipped) <= span;
+        count + u16::from(inside & (owner == name))
+    })
 }
 
 /// What is checked of each slot and of its order. There are no branches: which kind

@@ -5,13 +5,11 @@ mod approximate;
 use std::ops::Range;
 
 use hedjosur_layout::RECORD_BYTES;
+use hedjosur_model::device::{group_of, offset_of};
 
 use crate::neighbours::holding;
 use crate::record::Record;
 use approximate::{Ahead, Fit};
-
-/// The logical pages of a group.
-const GROUP_PAGES: u32 = 256;
 
 /// From here on the pages of an accurate run are compared several at once.
 const SHORT: usize = 6;
@@ -71,19 +69,27 @@ impl<'a> Learner<'a> {
     fn next_run(&mut self, place: usize, end: usize) -> (usize, Record) {
         let rest = &self.written[place..end];
         let (length, stride) = accurate_run(rest);
-        let start = rest[0] % GROUP_PAGES;
+        let start = offset_of(rest[0]);
         let fit = match self.bound > 0 && length < rest.len() {
             true => self.longer_fit(place..end, length),
             false => None,
         };
         let on = (self.first + place as u32) as i32;
         let (length, word, intercept) = match fit {
-            Some(fit) => (fit.length, 2 * fit.slope + 1, fit.intercept + self.first as i32),
+            Some(Fit {
+                length,
+                slope,
+                intercept,
+            }) => (length, 2 * slope + 1, intercept + self.first as i32),
             None if stride == 0 => (length, 0, on),
-            None => (length, 2 * stride, on - start.div_ceil(stride) as i32),
+            None => (
+                length,
+                2 * stride,
+                on - u32::from(start).div_ceil(stride) as i32,
+            ),
         };
         let record = Record {
-            start: start as u8,
+            start,
             span: (rest[length - 1] - rest[0]) as u8,
             word: word as u16,
             intercept,
@@ -93,7 +99,9 @@ impl<'a> Learner<'a> {
 
     /// The longest approximate run of these places, if it is longer than `length`.
     fn longer_fit(&mut self, places: Range<usize>, length: usize) -> Option<Fit> {
-        let line_ends = self.line_ends.get_or_insert_with(|| line_ends(self.written));
+        let line_ends = self
+            .line_ends
+            .get_or_insert_with(|| line_ends(self.written));
         let ahead = Ahead {
             written: self.written,
             line_ends,
@@ -126,11 +134,11 @@ pub fn parts(written: &[u32]) -> impl Iterator<Item = Range<usize>> + '_ {
     let mut end = 0;
     std::iter::from_fn(move || {
         let start = end;
-        let group = written.get(start)? / GROUP_PAGES;
-        let ahead = &written[start..];
-        end = match written[written.len() - 1] / GROUP_PAGES == group {
+        let group = group_of(*written.get(start)?);
+        let is_in_group = |page: &u32| group_of(*page) == group;
+        end = match written.last().is_some_and(is_in_group) {
             true => written.len(),
-            false => start + ahead.partition_point(|page| page / GROUP_PAGES == group),
+            false => start + written[start..].partition_point(is_in_group),
         };
         Some(start..end)
     })
