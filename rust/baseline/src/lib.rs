@@ -4,9 +4,13 @@
 //!
 //! - [`sort`]: a batch's last arrivals, sorted
 //! - [`learn`]: the runs of a sorted batch and their records
-//! - [`record`]: the record by value, and [`offsets`]: a set of offsets
-//! - [`group`]: one group's bytes: soundness, find, insert, compact, take in
+//! - [`record`]: the record by value, and [`offsets`]: a set of offsets, in words
+//! - [`group`]: one group's bytes: soundness, find, all predictions, insert, compact
 //! - [`device`]: the calls on a whole state
+//!
+//! Much of it is shaped so that the compiler uses vectors (several slopes, counts or
+//! owners at once, without a branch for each) and that the processor guesses few
+//! branches wrong: the kinds of records follow each other in no order.
 //!
 //! Answers and refusals are the model's types, and lengths and places are the
 //! constants of `hedjosur_layout`; the rest is written here once more, for speed.

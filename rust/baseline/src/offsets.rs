@@ -63,12 +63,6 @@ impl Offsets {
         Offsets::up_to(last).without(BELOW[usize::from(start)])
     }
 
-    /// Whether the sets have an offset in common.
-    #[inline]
-    pub fn meets(&self, other: &Offsets) -> bool {
-        !(*self & *other).is_empty()
-    }
-
     /// All offsets up to `last`.
     #[inline]
     fn up_to(last: u8) -> Offsets {
@@ -87,23 +81,10 @@ impl Offsets {
         self.0[usize::from(offset / 64)] |= 1 << (offset % 64);
     }
 
-    /// Takes an offset out of the set.
-    #[inline]
-    pub fn remove(&mut self, offset: u8) {
-        self.0[usize::from(offset / 64)] &= !(1 << (offset % 64));
-    }
-
     /// Whether the set has an offset.
     #[inline]
     pub fn contains(&self, offset: u8) -> bool {
         self.0[usize::from(offset / 64)] >> (offset % 64) & 1 == 1
-    }
-
-    /// The set, or none where the condition fails; without a branch.
-    #[inline]
-    pub fn only_if(self, condition: bool) -> Offsets {
-        let mask = u64::from(condition).wrapping_neg();
-        Offsets(self.0.map(|word| word & mask))
     }
 
     /// Whether the set has no offset.
@@ -111,6 +92,12 @@ impl Offsets {
     pub fn is_empty(&self) -> bool {
         let [a, b, c, d] = self.0;
         a | b | c | d == 0
+    }
+
+    /// Whether the sets have an offset in common.
+    #[inline]
+    pub fn meets(&self, other: &Offsets) -> bool {
+        !(*self & *other).is_empty()
     }
 
     /// The offsets that are not in another set.
@@ -122,10 +109,10 @@ impl Offsets {
     /// The first and last offset, if there is one.
     #[inline]
     pub fn ends(&self) -> Option<(u8, u8)> {
-        let Offsets([a, b, c, d]) = *self;
-        if a | b | c | d == 0 {
+        if self.is_empty() {
             return None;
         }
+        let Offsets([a, b, c, d]) = *self;
         let (low, high, from) = if a | b != 0 { (a, b, 0) } else { (c, d, 128) };
         let (word, from) = if low != 0 {
             (low, from)

@@ -50,12 +50,6 @@ impl Record {
         self.start + self.span
     }
 
-    /// Whether the ranges of two sound records meet.
-    #[inline]
-    pub fn meets(self, other: Record) -> bool {
-        self.start <= other.last() && other.start <= self.last()
-    }
-
     /// The members of a sound single or accurate record.
     #[inline(always)]
     pub fn exact_members(self) -> Offsets {

@@ -15,6 +15,9 @@ pub fn agree(one: (&[u8], &[u32]), other: (&[u8], &[u32])) -> Result<bool, Refus
     let mut agreed = one.device.logical_pages == other.device.logical_pages;
     let mut pages = [[NOT_WRITTEN; 256]; 2];
     for number in 0..one.groups.len().max(other.groups.len()) {
+        if !one.is_written(number) && !other.is_written(number) {
+            continue;
+        }
         one.look_up(number, &mut pages[0])?;
         other.look_up(number, &mut pages[1])?;
         let [one, other] = &pages;
@@ -41,6 +44,12 @@ impl<'a> Side<'a> {
             groups,
             area,
         })
+    }
+
+    /// Whether a group has records.
+    fn is_written(&self, number: usize) -> bool {
+        let part = self.groups.get(number);
+        part.is_some_and(|part| group::records(part) > 0)
     }
 
     /// Looks up all logical pages of a group; a page beyond the last is not written.

@@ -70,7 +70,8 @@ fn tally(device: &Numbers, groups: &[Part], area: &[u32]) -> Tally {
     let mut pages = [NOT_WRITTEN; 256];
     // 2^32 divided by B and rounded up: a page's block without a division.
     let reciprocal = (1u64 << 32).div_ceil(device.block_pages.into());
-    for (part, number) in groups.iter().zip(0..) {
+    let written = |(part, _): &(&Part, u32)| group::records(part) > 0;
+    for (part, number) in groups.iter().zip(0..).filter(written) {
         group::predict(part, &mut pages);
         for (&predicted, logical_page) in pages.iter().zip(256 * number..) {
             if let Some(page) = valid_page(device, area, predicted, logical_page) {

@@ -19,7 +19,8 @@ pub(super) fn members(part: &Part, record: Record) -> Offsets {
     }
 }
 
-/// The offsets that an approximate record owns.
+/// The offsets that an approximate record owns. Not inlined, as exact records are to be
+/// handled without it.
 #[inline(never)]
 fn owned(part: &Part, record: Record) -> Offsets {
     let name = name(record.start);

@@ -14,8 +14,8 @@ pub const NOT_WRITTEN: u32 = u32::MAX;
 /// What stands for a prediction that would be [`NOT_WRITTEN`]: no page either.
 const OUTSIDE: u32 = u32::MAX - 1;
 
-/// Fills in the predictions of a sound group. From the bottom up: what a record
-/// above predicts stays.
+/// Fills in the predictions of a sound group, from the bottom up: what a record above
+/// predicts stays.
 pub fn predict(part: &Part, predictions: &mut Predictions) {
     predictions.fill(NOT_WRITTEN);
     for slot in slots(part)[..records(part)].iter().rev() {

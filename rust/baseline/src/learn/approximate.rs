@@ -3,6 +3,8 @@
 
 use std::ops::RangeInclusive;
 
+use hedjosur_model::device::offset_of;
+
 /// Slopes are fractions of 256. Slope 256 predicts as 255 does at each offset of
 /// a group, so it is never the smallest of a longest run.
 const SLOPES: i32 = 256;
@@ -158,13 +160,13 @@ impl Ahead<'_> {
     /// stay inside, a page counts as if it stood farther in.
     #[inline(always)]
     fn lead(&self, mut leads: Leads, slope: usize, place: usize) -> Leads {
-        let offset = (self.written[place] % 256) as u16;
+        let offset = u16::from(offset_of(self.written[place]));
         let last = self.written.len() as i16 - 1;
         let after = (place as i16).max(self.bound);
         let before = (place as i16).min(last - self.bound);
         for lane in 0..LANES {
             let product = (slope + lane) as u16 * offset;
-            let rise = (product.wrapping_add(255) >> 8) as i16;
+            let rise = ((product + 255) >> 8) as i16;
             leads.least[lane] = leads.least[lane].min(rise - after);
             leads.most[lane] = leads.most[lane].max(rise - before);
         }
