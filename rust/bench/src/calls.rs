@@ -3,97 +3,20 @@
 use std::hint::black_box;
 
 use hedjosur_baseline::device;
-use hedjosur_conformance::calls::Calls;
-use hedjosur_conformance::subjects::{Baseline, Exported};
-use hedjosur_layout::{encode_state, state_bytes};
+use hedjosur_layout::encode_state;
 use hedjosur_model::device::Device;
-use hedjosur_model::ops::{Collected, Flushed, Refusal};
 use hedjosur_model::spare;
 use hedjosur_model::state::State;
-use hedjosur_model::testing::{batch, full_device, lists, Random};
+use hedjosur_model::testing::{full_device, Random};
 
 use crate::batches::{inputs, LEARNED};
+use crate::buffers::{time, time_each, Buffers};
 use crate::kinds::{self, Kind, MIXED};
 use crate::print;
 use crate::timing::compare;
 
 /// How many groups of a kind take turns.
 const GROUPS: u64 = 16;
-
-/// All that is lent to the calls on a device.
-#[derive(Clone)]
-struct Buffers {
-    state: Vec<u8>,
-    area: Vec<u32>,
-    plan: Vec<u32>,
-    erased: Vec<u32>,
-}
-
-impl Buffers {
-    fn new(device: &Device, state: Vec<u8>, area: Vec<u32>) -> Buffers {
-        let [plan, erased] = lists(device);
-        Buffers {
-            state,
-            area,
-            plan,
-            erased,
-        }
-    }
-
-    /// A device with this many blocks used, by batches of all patterns.
-    fn used(device: &Device, blocks: u32) -> Buffers {
-        let random = &mut Random::new(blocks.into());
-        let state = vec![0; state_bytes(device)];
-        let mut buffers = Buffers::new(device, state, vec![0; device.spare_length()]);
-        assert_eq!(buffers.format(&Baseline, device.numbers()), Ok(()));
-        for _ in 0..blocks {
-            let flushed = buffers.flush(&Baseline, &batch(random, device));
-            flushed.expect("an accepted flush");
-        }
-        buffers
-    }
-
-    /// A device whose blocks are free and whose groups hold many records.
-    fn crowded(device: &Device) -> Buffers {
-        let random = &mut Random::new(0);
-        let state = State {
-            numbers: device.numbers(),
-            counts: vec![0; device.blocks as usize],
-            groups: (0..device.groups())
-                .map(|_| kinds::crowded(random))
-                .collect(),
-        };
-        let state = encode_state(&state, || 0).expect("a state with bytes");
-        Buffers::new(device, state, vec![spare::NOBODY; device.spare_length()])
-    }
-
-    fn format(&mut self, calls: &dyn Calls, numbers: [u32; 4]) -> Result<(), Refusal> {
-        calls.format(&mut self.state, &mut self.area, numbers)
-    }
-
-    fn flush(&mut self, calls: &dyn Calls, batch: &[u32]) -> Result<Flushed, Refusal> {
-        calls.flush(&mut self.state, &mut self.area, batch, &mut self.plan)
-    }
-
-    fn collect(&mut self, calls: &dyn Calls) -> Result<Collected, Refusal> {
-        let Buffers {
-            state,
-            area,
-            plan,
-            erased,
-        } = self;
-        calls.collect(state, area, plan, erased)
-    }
-
-    fn compact(&mut self, calls: &dyn Calls, group: u32) -> Result<usize, Refusal> {
-        calls.compact(&mut self.state, group)
-    }
-
-    fn agree(&self, calls: &dyn Calls, other: &Buffers) -> Result<bool, Refusal> {
-        let own = (&self.state[..], &self.area[..]);
-        calls.agree(own, (&other.state, &other.area))
-    }
-}
 
 /// A device of one group of a kind, and logical pages to look up.
 struct Lookups {
@@ -169,102 +92,6 @@ pub fn lookup() {
     }
 }
 
-/// Buffers that a call changes, and what they are before each time.
-struct Changed {
-    before: Buffers,
-    now: Buffers,
-    /// Which pieces of state and spare area the call changes.
-    pieces: [Vec<usize>; 2],
-}
-
-/// The length of a piece.
-const PIECE: usize = 1024;
-
-impl Changed {
-    /// Has either side make the call once, to see what it changes.
-    fn new(before: Buffers, call: &dyn Fn(&dyn Calls, &mut Buffers)) -> Changed {
-        let mut changed = Changed {
-            now: before.clone(),
-            before,
-            pieces: [Vec::new(), Vec::new()],
-        };
-        for calls in [&Baseline as &dyn Calls, &Exported] {
-            call(calls, &mut changed.now);
-            let Changed { before, now, .. } = &changed;
-            let found = [
-                differing(&before.state, &now.state),
-                differing(&before.area, &now.area),
-            ];
-            for (pieces, found) in changed.pieces.iter_mut().zip(found) {
-                pieces.extend(found);
-            }
-            changed.restore();
-        }
-        changed
-    }
-
-    fn restore(&mut self) {
-        let Changed {
-            before,
-            now,
-            pieces: [state, area],
-        } = self;
-        restore(&before.state, &mut now.state, state);
-        restore(&before.area, &mut now.area, area);
-    }
-}
-
-/// The numbers of the pieces that differ.
-fn differing<T: PartialEq>(one: &[T], other: &[T]) -> Vec<usize> {
-    let pieces = one.chunks(PIECE).zip(other.chunks(PIECE)).enumerate();
-    let differing = pieces.filter(|(_, (one, other))| one != other);
-    differing.map(|(at, _)| at).collect()
-}
-
-fn restore<T: Copy>(before: &[T], now: &mut [T], pieces: &[usize]) {
-    for at in pieces {
-        let piece = at * PIECE..before.len().min((at + 1) * PIECE);
-        now[piece.clone()].copy_from_slice(&before[piece]);
-    }
-}
-
-/// Times a call on these buffers.
-fn time(function: &str, input: &str, before: Buffers, call: impl Fn(&dyn Calls, &mut Buffers)) {
-    time_each(function, input, &before, &[()], |calls, buffers, ()| {
-        call(calls, buffers);
-    });
-}
-
-/// Times a call with each of these arguments, each time on the same buffers.
-fn time_each<T>(
-    function: &str,
-    input: &str,
-    before: &Buffers,
-    arguments: &[T],
-    call: impl Fn(&dyn Calls, &mut Buffers, &T),
-) {
-    let changed = arguments.iter().map(|argument| {
-        let call = |calls: &dyn Calls, buffers: &mut Buffers| call(calls, buffers, argument);
-        Changed::new(before.clone(), &call)
-    });
-    let run = |calls: &'static dyn Calls| {
-        let call = &call;
-        move |work: &mut Vec<Changed>| {
-            for (changed, argument) in work.iter_mut().zip(arguments) {
-                call(calls, &mut changed.now, argument);
-            }
-        }
-    };
-    let times = compare(
-        &mut changed.collect(),
-        arguments.len(),
-        |work: &mut Vec<Changed>| work.iter_mut().for_each(Changed::restore),
-        run(&Baseline),
-        run(&Exported),
-    );
-    print(function, input, times);
-}
-
 /// Times the compaction of one group.
 pub fn compaction() {
     for kind in kinds::all() {
@@ -321,15 +148,9 @@ pub fn flush_of_patterns() {
             let crowded = Buffers::crowded(&device);
             for (name, before) in [("fresh", fresh), ("crowded", crowded)] {
                 let input = format!("{name}, {}, g {bound}", pattern.0);
-                time_each(
-                    "flush",
-                    &input,
-                    &before,
-                    &batches,
-                    |calls, buffers, batch| {
-                        assert!(buffers.flush(calls, batch).is_ok());
-                    },
-                );
+                time_each("flush", &input, &before, &batches, |calls, now, batch| {
+                    assert!(now.flush(calls, batch).is_ok());
+                });
             }
         }
     }

@@ -8,6 +8,7 @@
 #![forbid(unsafe_code)]
 
 mod batches;
+mod buffers;
 mod calls;
 mod groups;
 mod kinds;
