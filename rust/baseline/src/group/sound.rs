@@ -25,8 +25,7 @@ pub fn sound(part: &Part, logical_pages: u32, number: u32) -> bool {
 /// Whether slots are sound where nothing is owned: no record is approximate.
 fn sound_without_owners(slots: &[Slot], offsets: u32) -> bool {
     let mut checks = Checks::new(offsets);
-    slots.iter().for_each(|slot| checks.check(slot));
-    checks.pass() && checks.words % 2 == 0
+    all(slots, |slot| checks.check(slot)) && checks.words_fit() && checks.words % 2 == 0
 }
 
 /// Whether slots are sound and the owners fit them.
@@ -35,12 +34,21 @@ fn sound_with_owners(slots: &[Slot], owners: &Owners, offsets: u32) -> bool {
     // The ranges of the approximate records, collected without a branch.
     let mut ranges = [[0; 2]; 256];
     let mut count = 0;
-    for slot in slots {
-        checks.check(slot);
+    let in_order = all(slots, |slot| {
         ranges[count % 256] = [slot[0], slot[1]];
         count += usize::from(slot[2] % 2);
-    }
-    checks.pass() && count <= 256 && owners_fit(&ranges[..count], owners)
+        checks.check(slot)
+    });
+    in_order && checks.words_fit() && count <= 256 && owners_fit(&ranges[..count], owners)
+}
+
+/// Whether all slots pass a check: four in a step of the loop, which the compiler
+/// doesn't do here by itself.
+#[inline(always)]
+fn all(slots: &[Slot], mut check: impl FnMut(&Slot) -> bool) -> bool {
+    let (fours, rest) = slots.as_chunks::<4>();
+    let in_fours = fours.iter().all(|four| four.iter().all(&mut check));
+    in_fours && rest.iter().all(check)
 }
 
 /// Whether approximate records, each with its start and span, are the only ones with
@@ -89,47 +97,49 @@ fn count_in_one(owners: &Owners, first: usize, span: u16, name: Owner) -> u16 {
     })
 }
 
-/// What is checked of each slot and of its order. There are no branches: which kind
-/// of slot comes next is hard to predict.
+/// What is checked of each slot and of its order. Of a sound group no check fails, so
+/// that these branches are all guessed right; there is none for the kind of record,
+/// which is hard to predict.
 struct Checks {
-    /// Below 0 as long as nothing failed.
-    passed: i32,
     /// All words, bit by bit.
     words: i32,
     /// The last place taken; places are numbered through the levels, 256 each.
     taken: i32,
-    /// The first level that may not come next.
-    level_after: i32,
+    /// The level that may come next.
+    next_level: i32,
+    /// How many offsets the group has.
     offsets: i32,
 }
 
 impl Checks {
     fn new(offsets: u32) -> Checks {
         Checks {
-            passed: -1,
             words: 0,
             taken: -1,
-            level_after: 1,
+            next_level: 0,
             offsets: offsets as i32,
         }
     }
 
+    /// Whether a slot may stand behind those before it.
     #[inline(always)]
-    fn check(&mut self, slot: &Slot) {
+    fn check(&mut self, slot: &Slot) -> bool {
         let [start, span] = [slot[0], slot[1]].map(i32::from);
         let word = i32::from(u16::from_le_bytes([slot[2], slot[3]]));
         let level = i32::from(level(slot));
         let place = 256 * level + start;
-        self.passed &= (self.taken - place)
-            & (level - self.level_after)
-            & (start + span - self.offsets)
-            & words::excess(word, span);
+        let passes = place > self.taken
+            && level <= self.next_level
+            && start + span < self.offsets
+            && words::excess(word, span) < 0;
         self.words |= word;
         self.taken = place + span;
-        self.level_after = level + 2;
+        self.next_level = level + 1;
+        passes
     }
 
-    fn pass(&self) -> bool {
-        self.passed < 0 && self.words < 1024
+    /// Whether no word is above all that are tabled.
+    fn words_fit(&self) -> bool {
+        self.words < 1024
     }
 }
