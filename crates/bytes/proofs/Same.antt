@@ -44,15 +44,7 @@ stored-at s p vs room = record { each = each }
     each : (k : ℕ) → k < length vs → getD (store s p vs) (p + k) 0 ≡ getD vs (0 + k) 0
     each k l = rw (zero-add k) (getD-store s p vs k 0 l (omega arith))
 
--- in a part of m bytes that starts at a
-pub part-in : (n : ℕ) (s : List ℕ) (a m p : ℕ) → p + n ≤ m → Same n (take m (drop a s)) p s (a + p)
-part-in n s a m p h = record { each = each }
-  where
-    each : (k : ℕ) → k < n → getD (take m (drop a s)) (p + k) 0 ≡ getD s (a + p + k) 0
-    each k l =
-        let e : a + p + k ≡ a + (p + k) = omega arith in
-        rw e (getD-take m (drop a s) (p + k) 0 (omega arith) ∙ getD-drop a s (p + k) 0)
-
+-- in a part of n bytes that starts at a
 pub part-at : (n : ℕ) (s : List ℕ) (a : ℕ) → Same n (take n (drop a s)) 0 s a
 part-at n s a = record { each = each }
   where

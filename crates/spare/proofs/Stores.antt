@@ -1,9 +1,9 @@
 -- A store of many is the first of them set, then a store of the rest; so a loop that sets one after the other makes it. Assumes nothing.
 use mathlib.Core.Path.{_≡_, refl, ap}
 use mathlib.Core.List.{List, [], _∷_}
-use Prim.Native.Nat.{ℕ, zero, suc, _+_, _*_, _-_, _≤_, _<_}
+use Prim.Native.Nat.{ℕ, suc, _+_, _*_, _-_, _≤_, _<_}
 use native.Mathlib.Omega.{arith}
-use lib.ListN.{set, replicate}
+use lib.ListN.{length, set, replicate}
 use Rattle.model.specs.Lists.{store}
 use Rattle.model.specs.Device.{Device, entriesPerBlock}
 use Rattle.model.specs.Spare.{nobody, erase}
@@ -19,6 +19,15 @@ module _ {A : Type 0} where
 
   pub fill-end : (s : List A) (i e : ℕ) (v : A) → e ≤ i → store s i (replicate (e - i) v) ≡ s
   fill-end s i e v h = let m : e - i ≡ 0 = omega arith in rw m (store-nil s i)
+
+  -- a fill of the whole list
+  fills : (s : List A) (v : A) → store s 0 (replicate (length s) v) ≡ replicate (length s) v
+  unfolding store
+  fills [] v = refl
+  fills (x ∷ s) v = ap (λ (l : List A). v ∷ l) (fills s v)
+
+  pub fill-all : (s : List A) (v : A) → store s 0 (replicate (length s - 0) v) ≡ replicate (length s) v
+  fill-all s v = let m : length s - 0 ≡ length s = omega arith in rw m (fills s v)
 
 -- an erase fills the entries of block k, n to a block
 pub erase-fill : (d : Device) (k : ℕ) (s : List ℕ) (n : ℕ) → n ≡ entriesPerBlock d → store s (k * n) (replicate (k * n + n - k * n) nobody) ≡ erase d k s

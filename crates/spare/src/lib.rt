@@ -143,6 +143,14 @@ pub fn erase(spare: &mut [u32], d: Numbers, k: u32)
     blank(spare, a, e);
 }
 
+// Every block is erased.
+pub fn erase_all(spare: &mut [u32])
+    ensures { λ _. ⌜ now (spare .exit) ≡ replicate (length (now (spare .entry))) nobody ⌝ }
+{
+    let n = spare.len();
+    blank(spare, 0, n);
+}
+
 // What entry j of a block's page i is to name, where written lists the logical pages from the block's first page on.
 fn entry_rule(d: Numbers, written: &[u32], i: u32, j: u32) -> u32
     requires { ⌜ (withinLimits (numbersOf d) ≡ true) × (i < d .b) × (j < entriesPerPage (numbersOf d)) ⌝ }

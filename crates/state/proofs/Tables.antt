@@ -5,7 +5,7 @@ use mathlib.Core.Logic.{_≢_}
 use Prim.Native.Nat.{ℕ, zero, suc, _+_, _≤_, _<_}
 use native.Mathlib.Omega.{arith}
 use native.Mathlib.Nat.{zero-add}
-use lib.ListN.{length, getD, set, replicate}
+use lib.ListN.{length, getD, set}
 use Rattle.state.specs.Regions.{listFrom}
 
 module _ {A : Type 0} where
@@ -30,14 +30,6 @@ module _ {A : Type 0} where
   from-same f g k (suc n) e =
       ap (λ (x : A). x ∷ listFrom f (suc k) n) (e k (omega arith) (omega arith))
       ∙ ap (λ (l : List A). g k ∷ l) (from-same f g (suc k) n (λ i l h. e i (omega arith) (omega arith)))
-
-  -- one and the same at each place
-  pub from-all : (f : ℕ → A) (a : A) (k n : ℕ) → ((i : ℕ) → k ≤ i → i < k + n → f i ≡ a) → listFrom f k n ≡ replicate n a
-  unfolding listFrom
-  from-all f a k zero e = refl
-  from-all f a k (suc n) e =
-      ap (λ (x : A). x ∷ listFrom f (suc k) n) (e k (omega arith) (omega arith))
-      ∙ ap (λ (l : List A). a ∷ l) (from-all f a (suc k) n (λ i l h. e i (omega arith) (omega arith)))
 
   -- alike but at place j
   module _ (f g : ℕ → A) (j m : ℕ) (other : (i : ℕ) → i < m → i ≢ j → f i ≡ g i) where

@@ -22,7 +22,7 @@ use Rattle.state.proofs.Regions.{head-before, region-other, region-set}
 use Rattle.state.proofs.Shaping.{long, numbers-are, counts-are, groups-are}
 
 -- the state that bytes are read as, region by region
-pub read-as : (d : Device) (t : List ℕ) (n : ℕ) (cs : List ℕ) (gs : List Group) → length t ≡ n → numbersAt t ≡ d
+read-as : (d : Device) (t : List ℕ) (n : ℕ) (cs : List ℕ) (gs : List Group) → length t ≡ n → numbersAt t ≡ d
     → readRegion readCount d countRegion t ≡ cs → readRegion readGroup d groupRegion t ≡ gs
     → readState t ≡ record { bytes = n; device = d; counts = cs; groups = gs }
 unfolding readState

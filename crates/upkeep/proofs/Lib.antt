@@ -1,4 +1,5 @@
 pub mod Blank
-pub mod Erasing
+pub mod Emptied
+pub mod Filling
 pub mod Formatting
 pub mod Compacting

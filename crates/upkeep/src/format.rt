@@ -1,21 +1,29 @@
 // Format: the device numbers, all blocks free, all groups empty, every spare entry naming nobody.
+use group::OWNED_AT;
+use group::USED_AT;
 use spare::Numbers;
 use state::answers::Formatted;
 use state::answers::Refusal;
-use state::numbers::HEAD;
+use state::counts::set_count;
+use state::numbers::group_count;
+use state::numbers::group_end;
+use state::numbers::group_place;
 use state::numbers::state_len;
 use state::numbers::within_limits;
 ghost use mathlib.Core.Path.{_≡_};
 ghost use mathlib.Core.Bool.{true};
-ghost use Prim.Native.Nat.{_-_, _≤_};
-ghost use lib.ListN.{length, replicate};
+ghost use mathlib.Core.List.{[]};
+ghost use Prim.Native.Nat.{_≤_, _<_};
+ghost use lib.ListN.{length, set, replicate};
 ghost use Rattle.model.specs.Lists.{store};
-ghost use Rattle.model.specs.Device.{withinLimits, headLength, stateLength, spareLength};
-ghost use Rattle.model.specs.Spare.{nobody};
+ghost use Rattle.model.specs.Device.{withinLimits, groupCount, headLength, groupLength, stateLength};
+ghost use Rattle.model.specs.State.{withCounts, withGroups};
 ghost use Rattle.calls.specs.Format.{blankState};
 ghost use Rattle.calls.specs.History.{formatCall};
 ghost use Rattle.spare.specs.Read.{numbersOf};
+ghost use Rattle.group.specs.Reading.{readGroup};
 ghost use Rattle.state.specs.Reading.{readState};
+ghost use Rattle.state.specs.Shaped.{Shaped};
 ghost use Rattle.state.specs.Formatting.{headOf};
 ghost use Rattle.state.specs.Answers.{formatAnswer};
 ghost use Rattle.state.specs.Ran.{deviceSlices, Ran};
@@ -31,16 +39,49 @@ fn write_numbers(state: &mut [u8], d: Numbers)
     bytes::put_u32(state, 12, d.g);
 }
 
-// Every byte behind the device numbers becomes 0.
-fn clear(state: &mut [u8])
-    requires { ⌜ headLength ≤ length (now state) ⌝ }
-    ensures { λ _. ⌜ now (state .exit)
-        ≡ store (now (state .entry)) headLength (replicate (length (now (state .entry)) - headLength) 0) ⌝ }
+// Every block becomes free.
+fn free_blocks(state: &mut [u8], d: Numbers)
+    requires { ⌜ Shaped (numbersOf d) (readState (now state)) ⌝ }
+    ensures { λ _. ⌜ readState (now (state .exit)) ≡ withCounts (replicate (d .m) 0) (readState (now (state .entry))) ⌝ }
 {
-    let mut i = HEAD;
-    while i < state.len() {
-        state[i] = 0;
-        i += 1;
+    let m = d.m;
+    let mut k = 0;
+    while k < m {
+        set_count(state, d, k, 0);
+        k += 1;
+    }
+}
+
+// A group's bytes become an empty group's: no slot is used and no offset owned. The bytes behind mean nothing then, and stay.
+fn empty(b: &mut [u8])
+    requires { ⌜ length (now b) ≡ groupLength ⌝ }
+    ensures { λ _. ⌜ readGroup (now (b .exit)) ≡ [] ⌝ }
+{
+    bytes::put_u16(b, USED_AT, 0);
+    bytes::put_u16(b, OWNED_AT, 0);
+}
+
+// Group k becomes empty.
+fn empty_group(state: &mut [u8], d: Numbers, k: u32)
+    requires { ⌜ Shaped (numbersOf d) (readState (now state)) × (k < groupCount (numbersOf d)) ⌝ }
+    ensures { λ _. ⌜ readState (now (state .exit))
+        ≡ withGroups (set (readState (now (state .entry)) .groups) k []) (readState (now (state .entry))) ⌝ }
+{
+    let a = group_place(d, k);
+    let e = group_end(d, k);
+    empty(&mut state[a..e]);
+}
+
+// Every group becomes empty.
+fn empty_groups(state: &mut [u8], d: Numbers)
+    requires { ⌜ Shaped (numbersOf d) (readState (now state)) ⌝ }
+    ensures { λ _. ⌜ readState (now (state .exit)) ≡ withGroups (replicate (groupCount (numbersOf d)) []) (readState (now (state .entry))) ⌝ }
+{
+    let n = group_count(d);
+    let mut k = 0;
+    while k < n {
+        empty_group(state, d, k);
+        k += 1;
     }
 }
 
@@ -50,20 +91,8 @@ fn blank(state: &mut [u8], d: Numbers)
     ensures { λ _. ⌜ readState (now (state .exit)) ≡ blankState (numbersOf d) ⌝ }
 {
     write_numbers(state, d);
-    clear(state);
-}
-
-// Every block of the spare area is erased.
-fn erase_all(spare: &mut [u32], d: Numbers)
-    requires { ⌜ (withinLimits (numbersOf d) ≡ true) × (length (now spare) ≡ spareLength (numbersOf d)) ⌝ }
-    ensures { λ _. ⌜ now (spare .exit) ≡ replicate (spareLength (numbersOf d)) nobody ⌝ }
-{
-    let m = d.m;
-    let mut k = 0;
-    while k < m {
-        spare::erase(spare, d, k);
-        k += 1;
-    }
+    free_blocks(state, d);
+    empty_groups(state, d);
 }
 
 // Document 01's format.
@@ -82,6 +111,6 @@ pub fn format(m: u32, b: u32, n: u32, g: u32, state: &mut [u8], spare: &mut [u32
         return Formatted::Refused(Refusal::BadLength);
     }
     blank(state, d);
-    erase_all(spare, d);
+    spare::erase_all(spare);
     Formatted::Done
 }

@@ -1,26 +1,37 @@
--- The head, then zeros: the law of what is read then.
+-- The head, then the counts, then the groups: the law of what is read then.
 use native.Mathlib.Omega.{arith}
 use Rattle.spare.specs.Read.{numbersOf}
+use Rattle.state.specs.Reading.{readState}
+use Rattle.state.specs.Shaped.{Shaped}
 use Rattle.state.proofs.Places.{head-inside}
-use Rattle.upkeep.proofs.Blank.{blank-read}
+use Rattle.state.proofs.Shaping.{shaped-counts}
+use Rattle.upkeep.proofs.Blank.{head-shape, blank-read}
 use borrow.Author.Needs.{needs}
 use Rattle.upkeep.proofs.format.blank.Statement.{statement}
 use Rattle.upkeep.proofs.format.blank.Tie as tie
 
-abbrev start : tie.After-clear-arg → tie.Start
-start c = c .before .before .before .before .before .before
+abbrev after-numbers : tie.After-empty-groups-arg → tie.After-write-numbers
+after-numbers c = c .before .before .before .before .before .before .before
 
-abbrev after-write-numbers : tie.After-slice-known3 → tie.After-write-numbers
-after-write-numbers c = c .before .before .before .before .before .before
+abbrev start : tie.After-write-numbers → tie.Start
+start c = c .before .before .before
+
+shape : (c : tie.After-write-numbers) → Shaped (numbersOf (start c .args .d)) (readState (c .write-numbers .last .0))
+shape c = head-shape _ _ _ (start c .pre .0) (start c .pre .1) (c .write-numbers .ensures)
 
 write-numbers-requires : tie.Need-write-numbers-requires
 write-numbers-requires c κs = omega (arith, head-inside (numbersOf (c .before .before .args .d)), c .before .before .pre .1)
 
-clear-requires : tie.Need-clear-requires
-clear-requires c κs = omega (arith, head-inside (numbersOf (start c .args .d)), start c .pre .1, c .before .before .before .write-numbers .kept .0)
+free-blocks-requires : tie.Need-free-blocks-requires
+free-blocks-requires c κs = shape (c .before .before .before)
+
+empty-groups-requires : tie.Need-empty-groups-requires
+empty-groups-requires c κs = rw (c .before .before .before .free-blocks .ensures) (shaped-counts _ _ _ (shape (after-numbers c)))
 
 returns : tie.Need-returns
-returns c = blank-read _ _ _ _ (start (c .before .before .before) .pre .0) (start (c .before .before .before) .pre .1) (after-write-numbers c .write-numbers .ensures) (c .before .before .clear .ensures)
+returns c =
+    let numbers = after-numbers (c .before .before .before) in
+    blank-read _ _ _ (start numbers .pre .0) (start numbers .pre .1) (numbers .write-numbers .ensures) _ _ (c .before .before .before .before .before .before .free-blocks .ensures) (c .before .before .empty-groups .ensures)
 
 pub blank-spec : {M : Type 1} → statement M
-blank-spec = tie.close (tie.spec write-numbers-requires clear-requires (λ c. search needs) returns)
+blank-spec = tie.close (tie.spec write-numbers-requires free-blocks-requires empty-groups-requires (λ c. search needs) returns)

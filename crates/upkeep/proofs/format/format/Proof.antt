@@ -1,10 +1,12 @@
 -- Each refusal as the law of its return says; otherwise the blank device.
-use mathlib.Core.Path.{_≡_, sym, _∙_}
+use mathlib.Core.Path.{_≡_, sym, ap, _∙_}
 use mathlib.Core.Bool.{true}
 use borrow.Author.Needs.{needs}
 use borrow.Author.Tests.{not-true, not-false}
-use lib.ListN.{length}
+use Prim.Native.Nat.{ℕ}
+use lib.ListN.{length, replicate}
 use Rattle.model.specs.Device.{Device, withinLimits, stateLength, spareLength}
+use Rattle.model.specs.Spare.{nobody}
 use Rattle.state.specs.Answers.{refusalOf, formatAnswer}
 use Rattle.upkeep.proofs.Formatting.{format-numbers, format-state, format-spare, format-done}
 use Rattle.upkeep.proofs.format.format.Statement.{statement}
@@ -57,13 +59,10 @@ returns-3 c = format-spare _ _ _ (within (c .before .before .before .before)) (l
 blank-requires : tie.Need-blank-requires
 blank-requires c κs = (within (c .before .before .before .before .before), long (c .before .before .before))
 
-erase-all-requires : tie.Need-erase-all-requires
-erase-all-requires c κs = (within (else1 c), fits (c .before .before .before .before .before))
-
 returns-4 : tie.Need-returns-4
 unfolding formatAnswer refusalOf
-returns-4 c = format-done _ _ _ (within (else1 (c .before .before .before))) (long (else3 c .before .before)) (fits (else3 c)) _ _ (after-blank c .blank .ensures) (c .before .before .erase-all .ensures)
+returns-4 c = format-done _ _ _ (within (else1 (c .before .before .before))) (long (else3 c .before .before)) (fits (else3 c)) _ _ (after-blank c .blank .ensures) (c .before .before .erase-all .ensures ∙ ap (λ (n : ℕ). replicate n nobody) (fits (else3 c)))
 
 pub format-spec : {M : Type 1} → statement M
 format-spec = tie.close (tie.spec (λ c κs. search needs) returns state-len-requires returns-2 spare-len-requires
-    returns-3 blank-requires erase-all-requires (λ c. search needs) (λ c. search needs) returns-4)
+    returns-3 blank-requires (λ c κs. search needs) (λ c. search needs) (λ c. search needs) returns-4)
