@@ -7,22 +7,19 @@ use mathlib.Core.Bool.{Bool, true, false, _||_}
 use Prim.Native.Nat.{ℕ, suc, _+_, _-_, _≤_, _<_}
 use native.Mathlib.Omega.{arith}
 use native.Mathlib.Numerals.{add-one}
-use lib.Dec.{eqb}
-use Rattle.model.specs.Lists.{elem, orElse}
+use Rattle.model.specs.Lists.{orElse}
 use Rattle.model.specs.Record as model
-use Rattle.model.specs.Record.{Kind, single, accurate, approximate, kindOf, covers, memberAs, member}
+use Rattle.model.specs.Record.{member}
 use Rattle.model.specs.Levels.{Level, Group, listing, memberOfAny, holder, levelsTo}
-use Rattle.record.specs.declared.Record.{Record}
-use Rattle.record.specs.Read.{asRecord, bare}
+use Rattle.record.specs.Read.{bare}
 use Rattle.group.specs.declared.Slot.{Slot}
 use Rattle.group.specs.declared.Hit.{Hit}
 use Rattle.group.specs.declared.Hit.the-variants.{At, Nowhere}
 use Rattle.group.specs.Layout.{usedOf, slotOf, slotsFrom, slotsOf, ownerOf, levelsAt}
 use Rattle.group.specs.Cutting.{climbs, cut, front, behind}
-use Rattle.group.specs.Reading.{ownedBy, ownedAs, recordOf, placedOf, encodes, readGroup}
+use Rattle.group.specs.Reading.{recordOf, placedOf, encodes, readGroup}
 use Rattle.group.specs.Answers.{foundOf, lookedOf}
 use Rattle.group.proofs.Cutting.{Step, same, next, step, top, front-same, behind-same, front-next, behind-next}
-use Rattle.group.proofs.Ends.{owned-by}
 use Rattle.group.proofs.Slots.{slots-all, slots-step, slots-end, encoded, read-is, listing-read}
 
 -- what a search for o finds in the slots l, behind n levels
@@ -105,19 +102,6 @@ hit-read b o h x e = (
   rw (e, listing-read b h) (found (ownerOf b) o 0 (slotsOf b)),
   rw (e, read-is b h) (sym (looked-top (ownerOf b) o (slotsOf b) (encoded b h .climbing))),
 )
-
--- an approximate record has the offset where its owner names its start; the owner doesn't matter to any other
-pub member-by : (w : ℕ → ℕ) (s : Slot) (o : ℕ) → o < 256 → (t x : Bool) → x ≡ eqb (w o) (s .held .start + 1)
-    → ((L : List ℕ) → elem o L ≡ x → t ≡ member (asRecord (s .held) L) o) → t ≡ member (recordOf w s) o
-unfolding member memberAs covers ownedAs
-member-by w s o h t x q f =
-    let e : elem o (ownedBy w (s .held .start)) ≡ x = owned-by w (s .held .start) o h ∙ ap (eqb (w o)) (sym (add-one (s .held .start))) ∙ sym q in
-    f (ownedBy w (s .held .start)) e ∙ go (kindOf (s .held .word))
-  where
-    go : (k : Kind) → memberAs k (asRecord (s .held) (ownedBy w (s .held .start))) o ≡ memberAs k (asRecord (s .held) (ownedAs k w (s .held .start))) o
-    go single = refl
-    go (accurate d) = refl
-    go (approximate a) = refl
 
 -- the search at slot i of n
 module _ (b : List ℕ) (o n i : ℕ) where

@@ -1,10 +1,10 @@
 -- No two approximate records have one start exactly where no offset has two owners and each owns its start: what two of
 -- them own is told apart by the start that the owners name. By induction on the slots. Assumes nothing.
-use mathlib.Core.Path.{_≡_, refl}
+use mathlib.Core.Path.{_≡_, refl, sym}
 use mathlib.Core.List.{List, [], _∷_, map}
 use mathlib.Core.Logic.{_⊎_, inl, inr}
 use mathlib.Core.Bool.{Bool, true, false}
-use Prim.Native.Nat.{ℕ, suc, _<_}
+use Prim.Native.Nat.{ℕ, suc, _≤_}
 use native.Mathlib.Omega.{arith}
 use Rattle.model.specs.Lists.{elem, distinct}
 use Rattle.model.specs.Sound.{ownedOffsets}
@@ -12,7 +12,7 @@ use Rattle.model.proofs.Lists.{no-elem}
 use Rattle.model.proofs.Counting.{elem-append, elem-left, elem-right, distinct-append, distinct-right, distinct-apart, asc-distinct}
 use Rattle.group.specs.declared.Slot.{Slot}
 use Rattle.group.specs.Reading.{recordOf}
-use Rattle.group.specs.Checking.{approx}
+use Rattle.group.specs.Checking.{approx, endOf}
 use Rattle.group.proofs.Members.{In, here, there}
 use Rattle.group.proofs.Ends.{owned-asc}
 use Rattle.group.proofs.Shapes.{owned-approx, owned-other, owned-if, if-owned}
@@ -27,9 +27,9 @@ abbrev pub Fresh : List Slot → Type 0
 Fresh [] = Unit
 Fresh (s ∷ l) = ((t : Slot) → In t l → Alike s t → ⊥) × Fresh l
 
--- starts that the table has a place for
+-- ranges that end at an offset of the group
 abbrev pub Small : List Slot → Type 0
-Small l = (s : Slot) → In s l → s .held .start < 256
+Small l = (s : Slot) → In s l → endOf (s .held) ≤ 255
 
 module _ (w : ℕ → ℕ) where
   -- the slot whose record owns an offset
@@ -87,5 +87,12 @@ module _ (w : ℕ → ℕ) where
       apart t i a =
           let q : w (s .held .start) ≡ suc (t .held .start) = rw (a .starts) (e t (there i) (a .other)) in
           distinct-apart ((recordOf w s) .owned) (ownedOffsets (map (recordOf w) l)) d (s .held .start)
-          (if-owned w s (s .held .start) (m s here) (a .one) (e s here (a .one)))
-          (offset-in (s .held .start) i (if-owned w t (s .held .start) (m s here) (a .other) q))
+          (if-owned w s (s .held .start) (omega (arith, m s here)) (a .one) (e s here (a .one)))
+          (offset-in (s .held .start) i (if-owned w t (s .held .start) (omega (arith, m s here)) (a .other) q))
+
+-- where no two starts are one, an approximate record is known by its start
+pub same-slot : {s t : Slot} (l : List Slot) → Fresh l → In s l → In t l → Alike s t → s ≡ t
+same-slot (s ∷ l) f here here a = refl
+same-slot (s ∷ l) f here (there j) a = absurd (f .0 _ j a)
+same-slot (s ∷ l) f (there i) here a = absurd (f .0 _ i (record { one = a .other; other = a .one; starts = sym (a .starts) }))
+same-slot (s ∷ l) f (there i) (there j) a = same-slot l (f .1) i j a

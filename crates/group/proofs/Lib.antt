@@ -8,8 +8,9 @@ pub mod Finding
 pub mod Found
 pub mod Steps
 pub mod Fresh
-pub mod Table
+pub mod Taking
 pub mod Soundness
+pub mod SoundSlots
 pub mod Tests
 pub mod Turns
 pub mod Owned

@@ -82,6 +82,10 @@ pub named-here : (s : Slot) (l : List Slot) → approx (s .held) ≡ true → na
 unfolding named startsAt
 named-here s l a = rw (a, eq-eqb (s .held .start) (s .held .start) refl)
 
+pub in-named : {l : List Slot} {s : Slot} → In s l → approx (s .held) ≡ true → named (s .held .start) l ≡ true
+in-named {l = s ∷ l} here a = named-here s l a
+in-named {l = t ∷ l} {s = s} (there i) a = named-there (s .held .start) t l (in-named i a)
+
 -- a test on the n numbers from x on
 pub every-of : (t : ℕ → Bool) (n x : ℕ) → everyFrom t n x ≡ true → (o : ℕ) → x ≤ o → o < x + n → t o ≡ true
 unfolding everyFrom

@@ -1,118 +1,167 @@
--- The tests of one slot and of one owner, a law for each way to answer: the definition with the tests before it decided. Assumes nothing.
+-- The tests of a group's size, of one slot and of one owner, a law for each way to answer: the definition with the tests before it
+-- decided. Assumes nothing.
 use mathlib.Core.Path.{_≡_, refl, sym, _∙_}
 use mathlib.Core.List.{List}
-use mathlib.Core.Bool.{Bool, true, false}
-use Prim.Native.Nat.{ℕ, zero, suc, _+_, _*_, _-_, _/_, _%_, _≤_, _<_}
+use mathlib.Core.Bool.{Bool, true, false, _&&_, _||_}
+use Prim.Native.Nat.{ℕ, suc, _+_, _*_, _-_, _/_, _%_, _≤_, _<_}
 use native.Mathlib.Omega.{arith}
 use native.Mathlib.Numerals.{add-one}
-use lib.Dec.{ltb, leb, eqb}
-use lib.ListN.{getD, set}
-use borrow.Author.Tests.{eqb-true, eqb-false, lt-ltb, le-ltb, le-leb, lt-leb, eq-eqb, ne-eqb}
-use Rattle.model.specs.Record.{kindOf, isApproximate}
+use native.Mathlib.Nat.{zero-mod}
+use lib.Dec.{leb, eqb}
+use lib.ListN.{getD}
+use lib.Bits.{bitOr, or-add-and, and-le-l, and-le-r}
+use borrow.Author.Tests.{eqb-true, eqb-false, leb-true, lt-ltb, le-ltb, le-leb, lt-leb, eq-eqb, ne-eqb}
+use Rattle.model.specs.Record.{kindOf}
+use Rattle.model.proofs.Bools.{and-l, and-r, and-i, iff-bool}
 use Rattle.record.specs.declared.Record.{Record}
-use Rattle.record.proofs.Words.{kind-zero, kind-even, kind-odd}
+use Rattle.record.proofs.Words.{kind-zero, kind-even, kind-odd, odd-test}
 use Rattle.group.specs.declared.Slot.{Slot}
-use Rattle.group.specs.Checking.{approx, endOf, shapedAs, shaped, inPlace, ownsEnds, noted, inRange}
+use Rattle.group.specs.Checking.{approx, endOf, offsetsIn, shapedAs, shaped, inPlace, InLast, freeFrom, slotStands, ownsEnds, unnamed, without, taken}
+
+-- the number of a group's offsets
+module _ (N k : ℕ) where
+  pub offsets-none : N ≤ 256 * k → 0 ≡ offsetsIn N k
+  unfolding offsetsIn
+  offsets-none h = omega arith
+
+  pub offsets-all : 256 < N - 256 * k → 256 ≡ offsetsIn N k
+  unfolding offsetsIn
+  offsets-all h = omega arith
+
+  pub offsets-some : N - 256 * k ≤ 256 → N - 256 * k ≡ offsetsIn N k
+  unfolding offsetsIn
+  offsets-some h = omega arith
 
 -- the record's four numbers
-module _ (N k : ℕ) (r : Record) where
-  pub shaped-past : 255 < r .start + r .span → false ≡ shaped N k r
+module _ (m : ℕ) (r : Record) where
+  pub shaped-past : m ≤ r .start + r .span → false ≡ shaped m r
   unfolding shaped
-  shaped-past h = rw (lt-leb (endOf r) 255 h)
+  shaped-past h = rw (le-ltb (endOf r) m h)
 
-  pub shaped-beyond : r .start + r .span ≤ 255 → N ≤ 256 * k + (r .start + r .span) → false ≡ shaped N k r
-  unfolding shaped
-  shaped-beyond h g = rw (le-leb (endOf r) 255 h, le-ltb (256 * k + endOf r) N g)
-
-  module _ (h : r .start + r .span ≤ 255) (g : 256 * k + (r .start + r .span) < N) where
-    inside : shaped N k r ≡ shapedAs (kindOf (r .word)) (r .span)
+  module _ (h : r .start + r .span < m) where
+    inside : shaped m r ≡ shapedAs (kindOf (r .word)) (r .span)
     unfolding shaped
-    inside = rw (le-leb (endOf r) 255 h, lt-ltb (256 * k + endOf r) N g)
+    inside = rw (lt-ltb (endOf r) m h)
 
-    pub shaped-single : r .word ≡ 0 → eqb (r .span) 0 ≡ shaped N k r
+    pub shaped-slope : r .word % 2 ≡ 1 → leb (r .word) 513 ≡ shaped m r
     unfolding shapedAs
-    shaped-single e = rw (inside, kind-zero (r .word) e)
+    shaped-slope e =
+        rw (inside, kind-odd (r .word) e)
+        (iff-bool _ _ (λ q. le-leb (r .word / 2) 256 (omega (arith, leb-true (r .word) 513 q))) (λ q. le-leb (r .word) 513 (omega (arith, leb-true (r .word / 2) 256 q))))
 
-    pub shaped-slope : r .word % 2 ≡ 1 → leb (r .word / 2) 256 ≡ shaped N k r
-    unfolding shapedAs
-    shaped-slope e = rw (inside, kind-odd (r .word) e)
+    module _ (even : r .word % 2 ≡ 1 → ⊥) where
+      pub shaped-wide : 510 < r .word → false ≡ shaped m r
+      unfolding shapedAs
+      shaped-wide d = rw (inside, kind-even (r .word) (λ z. omega arith) even, lt-leb (r .word / 2) 255 (omega arith))
 
-    pub shaped-wide : (r .word ≡ 0 → ⊥) → (r .word % 2 ≡ 1 → ⊥) → 255 < r .word / 2 → false ≡ shaped N k r
-    unfolding shapedAs
-    shaped-wide z e d = rw (inside, kind-even (r .word) z e, lt-leb (r .word / 2) 255 d)
+      module _ (low : r .word ≤ 510) where
+        strided : (r .word ≡ 0 → ⊥) → shaped m r ≡ eqb (r .span % (r .word / 2)) 0
+        unfolding shapedAs
+        strided z = rw (inside, kind-even (r .word) z even, le-leb (r .word / 2) 255 (omega arith))
 
-    pub shaped-stride : (r .word ≡ 0 → ⊥) → (r .word % 2 ≡ 1 → ⊥) → r .word / 2 ≤ 255 → eqb (r .span % (r .word / 2)) 0 ≡ shaped N k r
-    unfolding shapedAs
-    shaped-stride z e d = rw (inside, kind-even (r .word) z e, le-leb (r .word / 2) 255 d)
+        pub shaped-point : r .span ≡ 0 → true ≡ shaped m r
+        unfolding shapedAs
+        shaped-point e = go (eqb (r .word) 0) refl
+          where
+            go : (t : Bool) → eqb (r .word) 0 ≡ t → true ≡ shaped m r
+            go true q = rw (inside, kind-zero (r .word) (eqb-true _ _ q), e)
+            go false q = rw (strided (eqb-false _ _ q), e, zero-mod (r .word / 2))
 
--- the slot's place
-module _ (n from : ℕ) (s : Slot) where
-  pub place-opens : s .level ≡ n → true ≡ inPlace n from s
+        pub shaped-single : (r .span ≡ 0 → ⊥) → r .word ≡ 0 → false ≡ shaped m r
+        unfolding shapedAs
+        shaped-single e z = rw (inside, kind-zero (r .word) z, ne-eqb (r .span) 0 e)
+
+        pub shaped-stride : (r .word ≡ 0 → ⊥) → eqb (r .span % (r .word / 2)) 0 ≡ shaped m r
+        shaped-stride z = sym (strided z)
+
+-- the slot's place: 256 for each level and its start
+module _ (m n p : ℕ) (s : Slot) (byte : s .held .start < 256) (last : InLast n p) where
+  early : 256 * s .level + s .held .start < p → inPlace n (freeFrom n p) s ≡ false
   unfolding inPlace
-  place-opens e = rw (eq-eqb (s .level) n e)
+  early h = rw (ne-eqb (s .level) n (λ q. omega arith)) (go (eqb (suc (s .level)) n) refl)
+    where
+      go : (t : Bool) → eqb (suc (s .level)) n ≡ t → (t && leb (freeFrom n p) (s .held .start)) ≡ false
+      go true q = let e : suc (s .level) ≡ n = eqb-true _ _ q in lt-leb (freeFrom n p) (s .held .start) (omega arith)
+      go false q = refl
 
-  pub place-wrong : (s .level ≡ n → ⊥) → (s .level + 1 ≡ n → ⊥) → false ≡ inPlace n from s
+  above : n < s .level → inPlace n (freeFrom n p) s ≡ false
   unfolding inPlace
-  place-wrong e f = rw (ne-eqb (s .level) n e, ne-eqb (suc (s .level)) n (λ q. f (add-one (s .level) ∙ q)))
+  above h = rw (ne-eqb (s .level) n (λ q. omega arith), ne-eqb (suc (s .level)) n (λ q. omega arith))
 
-  pub place-on : (s .level ≡ n → ⊥) → s .level + 1 ≡ n → leb from (s .held .start) ≡ inPlace n from s
+  right : p ≤ 256 * s .level + s .held .start → s .level ≤ n → inPlace n (freeFrom n p) s ≡ true
   unfolding inPlace
-  place-on e f = rw (ne-eqb (s .level) n e, eq-eqb (suc (s .level)) n (sym (add-one (s .level)) ∙ f))
+  right h k = go (eqb (s .level) n) refl
+    where
+      go : (t : Bool) → eqb (s .level) n ≡ t → (t || (eqb (suc (s .level)) n && leb (freeFrom n p) (s .held .start))) ≡ true
+      go true q = refl
+      go false q =
+          let f : s .level ≡ n → ⊥ = eqb-false _ _ q in
+          let e : suc (s .level) ≡ n = omega arith in
+          and-i _ _ (eq-eqb _ _ e) (le-leb (freeFrom n p) (s .held .start) (omega arith))
+
+  misplaced : inPlace n (freeFrom n p) s ≡ false → false ≡ slotStands m n (freeFrom n p) s
+  misplaced e = rw e (go (shaped m (s .held)))
+    where
+      go : (t : Bool) → false ≡ (t && false)
+      go true = refl
+      go false = refl
+
+  pub stands-early : 256 * s .level + s .held .start < p → false ≡ slotStands m n (freeFrom n p) s
+  stands-early h = misplaced (early h)
+
+  pub stands-above : n < s .level → false ≡ slotStands m n (freeFrom n p) s
+  stands-above h = misplaced (above h)
+
+  pub stands-shaped : p ≤ 256 * s .level + s .held .start → s .level ≤ n → (t : Bool) → t ≡ shaped m (s .held) → t ≡ slotStands m n (freeFrom n p) s
+  stands-shaped h k t e = rw (right h k) (go t e)
+    where
+      go : (t : Bool) → t ≡ shaped m (s .held) → t ≡ (shaped m (s .held) && true)
+      go true e = rw (← e)
+      go false e = rw (← e)
 
 -- a record whose word is even, and one whose word is odd
 module _ (r : Record) where
   even-not : r .word % 2 ≡ 0 → approx r ≡ false
-  unfolding isApproximate
-  even-not e = go (eqb (r .word) 0) refl
-    where
-      go : (t : Bool) → eqb (r .word) 0 ≡ t → approx r ≡ false
-      go true q = rw (kind-zero (r .word) (eqb-true _ _ q))
-      go false q = rw (kind-even (r .word) (eqb-false _ _ q) (λ f. omega arith))
+  even-not e = sym (odd-test (r .word)) ∙ ne-eqb (r .word % 2) 1 (λ q. omega arith)
 
   odd-is : (r .word % 2 ≡ 0 → ⊥) → approx r ≡ true
-  unfolding isApproximate
-  odd-is e = let q : r .word % 2 ≡ 1 = omega arith in rw (kind-odd (r .word) q)
+  odd-is e = sym (odd-test (r .word)) ∙ eq-eqb (r .word % 2) 1 (omega arith)
 
-  module _ (T : List ℕ) where
-    pub note-other : r .word % 2 ≡ 0 → T ≡ noted (approx r) T r
-    unfolding noted
-    note-other e = rw (even-not e)
+  module _ (c : List ℕ) where
+    pub ends-other : r .word % 2 ≡ 0 → (true ≡ ownsEnds (approx r) c r) × (c ≡ taken (approx r) c r)
+    unfolding ownsEnds taken
+    ends-other e = (rw (even-not e), rw (even-not e))
 
-    pub note-approx : (r .word % 2 ≡ 0 → ⊥) → set T (r .start) (r .start + r .span + 1) ≡ noted (approx r) T r
-    unfolding noted
-    note-approx e = rw (odd-is e, add-one (r .start + r .span))
-
-    module _ (w : ℕ → ℕ) where
-      pub ends-other : r .word % 2 ≡ 0 → true ≡ ownsEnds (approx r) w T r
+    module _ (odd : r .word % 2 ≡ 0 → ⊥) where
+      pub ends-first : (getD c (r .start) 0 ≡ r .start + 1 → ⊥) → false ≡ ownsEnds (approx r) c r
       unfolding ownsEnds
-      ends-other e = rw (even-not e)
+      ends-first f = rw (odd-is odd, ne-eqb (getD c (r .start) 0) (suc (r .start)) (λ q. f (q ∙ sym (add-one (r .start)))))
 
-      module _ (odd : r .word % 2 ≡ 0 → ⊥) where
-        pub ends-seen : (getD T (r .start) 0 ≡ 0 → ⊥) → false ≡ ownsEnds (approx r) w T r
-        unfolding ownsEnds
-        ends-seen e = rw (odd-is odd, ne-eqb (getD T (r .start) 0) 0 e)
+      pub ends-last : getD c (r .start) 0 ≡ r .start + 1 → (getD c (r .start + r .span) 0 ≡ r .start + 1 → ⊥) → false ≡ ownsEnds (approx r) c r
+      unfolding ownsEnds
+      ends-last e f =
+          rw (odd-is odd, eq-eqb (getD c (r .start) 0) (suc (r .start)) (e ∙ add-one (r .start)), ne-eqb (getD c (endOf r) 0) (suc (r .start)) (λ q. f (q ∙ sym (add-one (r .start)))))
 
-        pub ends-start : getD T (r .start) 0 ≡ 0 → (v : ℕ) → v ≡ w (r .start) → (v ≡ r .start + 1 → ⊥) → false ≡ ownsEnds (approx r) w T r
-        unfolding ownsEnds
-        ends-start z v e f =
-            rw (odd-is odd, eq-eqb (getD T (r .start) 0) 0 z, ne-eqb (w (r .start)) (suc (r .start)) (λ q. f (e ∙ q ∙ sym (add-one (r .start)))))
+      pub ends-both : getD c (r .start) 0 ≡ r .start + 1 → getD c (r .start + r .span) 0 ≡ r .start + 1 → true ≡ ownsEnds (approx r) c r
+      unfolding ownsEnds
+      ends-both e f =
+          rw (odd-is odd, eq-eqb (getD c (r .start) 0) (suc (r .start)) (e ∙ add-one (r .start)), eq-eqb (getD c (endOf r) 0) (suc (r .start)) (f ∙ add-one (r .start)))
 
-        pub ends-both : getD T (r .start) 0 ≡ 0 → (v : ℕ) → v ≡ w (r .start) → v ≡ r .start + 1 → (u : ℕ) → u ≡ w (r .start + r .span) → eqb u (r .start + 1) ≡ ownsEnds (approx r) w T r
-        unfolding ownsEnds
-        ends-both z v e f u g =
-            rw (odd-is odd, eq-eqb (getD T (r .start) 0) 0 z, eq-eqb (w (r .start)) (suc (r .start)) (sym e ∙ f ∙ add-one (r .start)), g, add-one (r .start))
+      pub ends-taken : without (r .start + 1) (suc (r .start + r .span - r .start)) (r .start) c ≡ taken (approx r) c r
+      unfolding taken
+      ends-taken = let e : r .start + r .span - r .start ≡ r .span = omega arith in rw (odd-is odd, e, add-one (r .start))
 
 -- an owner
-pub range-none : (T : List ℕ) (o v : ℕ) → v ≡ 0 → true ≡ inRange T o v
-unfolding inRange
-range-none T o v e = rw e
+pub unnamed-same : (name v : ℕ) → v ≡ name → 0 ≡ unnamed name v
+unfolding unnamed
+unnamed-same name v e = rw (eq-eqb v name e, unnamed)
 
-pub range-before : (T : List ℕ) (o v : ℕ) → (v ≡ 0 → ⊥) → o < v - 1 → false ≡ inRange T o v
-unfolding inRange
-range-before T o zero z h = absurd (z refl)
-range-before T o (suc x) z h = rw (lt-leb x o (omega arith))
+pub unnamed-other : (name v : ℕ) → (v ≡ name → ⊥) → v ≡ unnamed name v
+unfolding unnamed
+unnamed-other name v f = rw (ne-eqb v name f, unnamed)
 
-pub range-in : (T : List ℕ) (o v : ℕ) → (v ≡ 0 → ⊥) → v - 1 ≤ o → ltb o (getD T (v - 1) 0) ≡ inRange T o v
-unfolding inRange
-range-in T o zero z h = absurd (z refl)
-range-in T o (suc x) z h = let e : suc x - 1 ≡ x = omega arith in rw (e, le-leb x o (omega arith))
+-- two owners together are 0 where both are
+pub both-none : (a b : ℕ) → eqb (bitOr a b) 0 ≡ (eqb a 0 && eqb b 0)
+both-none a b =
+    iff-bool _ _ (λ h. let e : bitOr a b ≡ 0 = eqb-true _ _ h in and-i _ _ (eq-eqb a 0 (omega (arith, or-add-and a b, and-le-r a b))) (eq-eqb b 0 (omega (arith, or-add-and a b, and-le-l a b))))
+    (λ h. let e : a ≡ 0 = eqb-true _ _ (and-l (eqb a 0) _ h) in let f : b ≡ 0 = eqb-true _ _ (and-r (eqb a 0) _ h) in eq-eqb (bitOr a b) 0 (rw (e, f)))

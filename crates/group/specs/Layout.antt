@@ -77,6 +77,15 @@ slotsOf b = slotsFrom b 0 (usedOf b)
 unfoldable pub entryOf : List ℕ → ℕ → ℕ
 entryOf b o = le16 b (ownerPlace o)
 
+-- the entries of the n offsets from o on
+unfoldable pub entriesFrom : List ℕ → ℕ → ℕ → List ℕ
+entriesFrom b o zero = []
+entriesFrom b o (suc n) = entryOf b o ∷ entriesFrom b (suc o) n
+
+-- the entries of all offsets
+abbrev pub entriesOf : List ℕ → List ℕ
+entriesOf b = entriesFrom b 0 offsets
+
 -- the owner of offset o: "while it is 0 nothing is owned, whatever the 512 bytes hold"
 unfoldable pub ownerOf : List ℕ → ℕ → ℕ
 ownerOf b o = elim (eqb (flagOf b) 0) [ true ↦ 0 | false ↦ entryOf b o ]

@@ -1,4 +1,5 @@
 -- docs/LAYOUT.md, 'What the bytes are read as': the group that the bytes encode, if they encode one. Assumes nothing.
+use mathlib.Core.Path.{_≡_}
 use mathlib.Core.List.{List, [], _∷_, map}
 use mathlib.Core.Bool.{Bool, true, false, _&&_, _||_}
 use Prim.Native.Nat.{ℕ, zero, suc}
@@ -8,6 +9,7 @@ use Rattle.model.specs.Lists.{select}
 use Rattle.model.specs.Record as model
 use Rattle.model.specs.Record.{Kind, single, accurate, approximate, kindOf, isApproximate}
 use Rattle.model.specs.Levels.{Group, groupLimit}
+use Rattle.model.specs.Sound.{soundGroup}
 use Rattle.record.specs.Read.{asRecord}
 use Rattle.group.specs.declared.Slot.{Slot}
 use Rattle.group.specs.Layout.{offsets, slotsOf, ownerOf}
@@ -67,3 +69,9 @@ encodes b = coherent (slotsOf b) (ownerOf b)
 -- the group that the bytes are read as
 unfoldable pub readGroup : List ℕ → Group
 readGroup b = groupOr (encodes b) (slotsOf b) (ownerOf b)
+
+-- the bytes are read as a sound group: of some number, of some device
+pub record SoundBytes (b : List ℕ) : Type 0 where
+  pub pages : ℕ
+  pub number : ℕ
+  pub sound : soundGroup pages number (readGroup b) ≡ true

@@ -3,18 +3,18 @@ use record::Record;
 ghost use mathlib.Core.Path.{_≡_};
 ghost use mathlib.Core.Bool.{true};
 ghost use mathlib.Core.Option.{Option·map};
-ghost use Prim.Native.Nat.{_+_, _<_, _≤_};
+ghost use Prim.Native.Nat.{suc, _+_, _-_, _<_, _≤_};
 ghost use lib.ListN.{length, getD};
 ghost use Rattle.model.specs.Device.{groupLength};
 ghost use Rattle.model.specs.Levels.{listing, recordCount, groupLimit, holder, levelsTo};
 ghost use Rattle.model.specs.Sound.{soundGroup};
 ghost use Rattle.record.specs.Read.{bare};
 ghost use Rattle.record.specs.Coding.{InEight};
-ghost use Rattle.group.specs.Layout.{offsets, usedOf, flagOf, slotOf, slotLevel, slotsOf, ownerOf, levelsAt};
-ghost use Rattle.group.specs.Reading.{encodes, readGroup};
+ghost use Rattle.group.specs.Layout.{offsets, usedOf, flagOf, slotOf, slotLevel, slotsOf, entriesOf, ownerOf, levelsAt};
+ghost use Rattle.group.specs.Reading.{encodes, readGroup, SoundBytes};
 ghost use Rattle.group.specs.Held.{slotsFor};
 ghost use Rattle.group.specs.Answers.{foundOf, lookedOf, noSlot};
-ghost use Rattle.group.specs.Checking.{approx, shaped, inPlace, ownsEnds, noted, table, slotPasses, slotsPass, inRange, ownersPass};
+ghost use Rattle.group.specs.Checking.{approx, offsetsIn, shaped, InLast, freeFrom, slotStands, slotsPass, noOwners, unnamed, without, ownsEnds, taken, leftBy, unowned};
 
 // A group's bytes (docs/LAYOUT.md, 'A group').
 pub const GROUP_BYTES: usize = 5636;
@@ -39,6 +39,11 @@ pub const OWNER_BYTES: usize = 2;
 pub const SLOTS: u32 = 512;
 
 pub const OFFSETS: u32 = 256;
+
+// The words of the widest stride, 255, and of the steepest slope, 256.
+const WIDEST: u32 = 510;
+
+const STEEPEST: u32 = 513;
 
 // A used slot: a record, and the number of its level.
 pub struct Slot {
@@ -124,9 +129,9 @@ pub fn record_at(b: &[u8], i: usize) -> Slot
     slot_at(b, i)
 }
 
-// Where offset o is found.
+// Where offset o is found, in a sound group.
 pub fn find(b: &[u8], o: u32) -> Hit
-    requires { ⌜ (length (now b) ≡ groupLength) × (encodes (now b) ≡ true) × (o < offsets) ⌝ }
+    requires { ⌜ (length (now b) ≡ groupLength) × SoundBytes (now b) × (o < offsets) ⌝ }
     ensures { λ r. ⌜ (foundOf r ≡ Option·map bare (holder o (listing (readGroup (now (b .entry)))))) × (lookedOf r ≡ levelsTo o (readGroup (now (b .entry)))) ⌝ }
 {
     let n = used(b) as usize;
@@ -143,147 +148,179 @@ pub fn find(b: &[u8], o: u32) -> Hit
     Hit::Nowhere(levels_at(b, n))
 }
 
-// Whether the record's four numbers are a sound one's, in group k of n pages.
-pub fn shaped(r: Record, n: u32, k: u32) -> bool
-    requires { ⌜ InEight r × (k ≤ 4096) ⌝ }
-    ensures { λ t. ⌜ t ≡ shaped n k r ⌝ }
+// How many offsets of group k are among n pages.
+fn offsets_in(n: u32, k: u32) -> u32
+    requires { ⌜ k ≤ 4096 ⌝ }
+    ensures { λ r. ⌜ (r ≡ offsetsIn n k) × (r ≤ offsets) ⌝ }
 {
-    let e = r.start + r.span;
-    if 255 < e {
-        return false;
+    let below = OFFSETS * k;
+    if n <= below {
+        return 0;
     }
-    if n <= OFFSETS * k + e {
+    let m = n - below;
+    if OFFSETS < m {
+        return OFFSETS;
+    }
+    m
+}
+
+// Whether the record's four numbers are a sound one's, in a group of m offsets.
+pub fn shaped(r: Record, m: u32) -> bool
+    requires { ⌜ InEight r ⌝ }
+    ensures { λ t. ⌜ t ≡ shaped m r ⌝ }
+{
+    if m <= r.start + r.span {
         return false;
     }
     let w = r.word;
-    if w == 0 {
-        return r.span == 0;
-    }
-    let d = w / 2;
     if w % 2 == 1 {
-        return d <= 256;
+        return w <= STEEPEST;
     }
-    if 255 < d {
+    if WIDEST < w {
         return false;
     }
-    r.span % d == 0
-}
-
-// Whether the slot goes on with the last of the levels, which is free from offset `from` on, or opens the next.
-fn in_place(s: Slot, levels: u32, from: u32) -> bool
-    requires { ⌜ s .level < 65536 ⌝ }
-    ensures { λ t. ⌜ t ≡ inPlace levels from s ⌝ }
-{
-    if s.level == levels {
+    if r.span == 0 {
         return true;
     }
-    if s.level + 1 != levels {
+    if w == 0 {
         return false;
     }
-    let r = s.held;
-    from <= r.start
+    r.span % (w / 2) == 0
 }
 
-// Whether an approximate record is the first with its start and owns its ends.
-fn owns_ends(b: &[u8], ends: &[u32], r: Record) -> bool
-    requires { ⌜ (length (now b) ≡ groupLength) × (length (now ends) ≡ offsets) × (r .start + r .span ≤ 255) ⌝ }
-    ensures { λ t. ⌜ t ≡ ownsEnds (approx r) (ownerOf (now (b .entry))) (now (ends .entry)) r ⌝ }
-{
-    if r.word % 2 == 0 {
-        return true;
-    }
-    let i = r.start as usize;
-    if ends[i] != 0 {
-        return false;
-    }
-    if owner(b, r.start) != r.start + 1 {
-        return false;
-    }
-    owner(b, r.start + r.span) == r.start + 1
-}
-
-// Whether a slot may stand behind those before it.
-fn passes(b: &[u8], ends: &[u32], s: Slot, levels: u32, from: u32, n: u32, k: u32) -> bool
-    requires { ⌜ (length (now b) ≡ groupLength) × (length (now ends) ≡ offsets) × (s .level < 65536) × InEight (s .held) × (k ≤ 4096) ⌝ }
-    ensures { λ t. ⌜ (t ≡ slotPasses n k (ownerOf (now (b .entry))) levels from (now (ends .entry)) s) × (t ≡ true → s .held .start + s .held .span ≤ 255) ⌝ }
+// Whether a slot may stand behind those before it, which make so many levels: its record is shaped, and its place is `free` or
+// a later one of the last level or the next. Places are numbered through the levels.
+fn stands(s: Slot, m: u32, levels: u32, free: u32) -> bool
+    requires { ⌜ (s .level < 65536) × InEight (s .held) × InLast levels free ⌝ }
+    ensures { λ t. ⌜ t ≡ slotStands m levels (freeFrom levels free) s ⌝ }
 {
     let r = s.held;
-    if !shaped(r, n, k) {
+    if OFFSETS * s.level + r.start < free {
         return false;
     }
-    if !in_place(s, levels, from) {
+    if levels < s.level {
         return false;
     }
-    owns_ends(b, ends, r)
+    shaped(r, m)
 }
 
-// Puts an approximate record's end, plus 1, down at its start.
-fn note(ends: &mut [u32], r: Record)
-    requires { ⌜ (length (now ends) ≡ offsets) × (r .start + r .span ≤ 255) ⌝ }
-    ensures { λ _. ⌜ now (ends .exit) ≡ noted (approx r) (now (ends .entry)) r ⌝ }
+// Whether each slot may stand behind those before it, where no offset is owned: none is approximate.
+fn plain_pass(b: &[u8], m: u32) -> bool
+    requires { ⌜ (length (now b) ≡ groupLength) × (usedOf (now b) ≤ groupLimit) × (m ≤ offsets) ⌝ }
+    ensures { λ t. ⌜ t ≡ slotsPass m 0 0 noOwners (slotsOf (now (b .entry))) ⌝ }
 {
-    if r.word % 2 == 0 {
-        return;
-    }
-    let i = r.start as usize;
-    ends[i] = r.start + r.span + 1;
-}
-
-// Whether each slot may stand behind those before it; if so the table has the approximate records' ends.
-fn slots_pass(b: &[u8], ends: &mut [u32], n: u32, k: u32) -> bool
-    requires { ⌜ (length (now b) ≡ groupLength) × (usedOf (now b) ≤ groupLimit) × (length (now ends) ≡ offsets) × (k ≤ 4096) ⌝ }
-    ensures { λ t. ⌜ (t ≡ slotsPass n k (ownerOf (now (b .entry))) 0 0 (now (ends .entry)) (slotsOf (now (b .entry)))) × (t ≡ true → now (ends .exit) ≡ table (now (ends .entry)) (slotsOf (now (b .entry)))) ⌝ }
-{
-    let m = used(b) as usize;
+    let end = used(b) as usize;
     let mut levels = 0;
-    let mut from = 0;
+    let mut free = 0;
     let mut i = 0;
-    while i < m {
+    while i < end {
         let s = slot_at(b, i);
-        if !passes(b, ends, s, levels, from, n, k) {
+        let r = s.held;
+        if r.word % 2 == 1 {
             return false;
         }
-        let r = s.held;
-        note(ends, r);
+        if !stands(s, m, levels, free) {
+            return false;
+        }
         levels = s.level + 1;
-        from = r.start + r.span + 1;
+        free = OFFSETS * s.level + r.start + r.span + 1;
         i += 1;
     }
     true
 }
 
-// Whether an owner of offset o is none, or a record of the table whose range has o.
-fn in_range(ends: &[u32], o: u32, w: u32) -> bool
-    requires { ⌜ (length (now ends) ≡ offsets) × (o < offsets) ⌝ }
-    ensures { λ t. ⌜ t ≡ inRange (now (ends .entry)) o w ⌝ }
+// Copies the entries of all offsets.
+fn copy_entries(b: &[u8], owners: &mut [u16])
+    requires { ⌜ (length (now b) ≡ groupLength) × (length (now owners) ≡ offsets) ⌝ }
+    ensures { λ _. ⌜ now (owners .exit) ≡ entriesOf (now (b .entry)) ⌝ }
 {
-    if w == 0 {
-        return true;
-    }
-    if o < w - 1 {
-        return false;
-    }
-    let i = (w - 1) as usize;
-    o < ends[i]
-}
-
-// Whether each owner is in its record's range.
-fn owners_pass(b: &[u8], ends: &[u32]) -> bool
-    requires { ⌜ (length (now b) ≡ groupLength) × (length (now ends) ≡ offsets) ⌝ }
-    ensures { λ t. ⌜ t ≡ ownersPass (ownerOf (now (b .entry))) (now (ends .entry)) ⌝ }
-{
-    if flag(b) == 0 {
-        return true;
-    }
     let mut o = 0;
-    while o < OFFSETS {
-        let w = owner(b, o);
-        if !in_range(ends, o, w) {
-            return false;
-        }
+    while o < OFFSETS as usize {
+        owners[o] = bytes::get_u16(b, OWNERS_AT + o * OWNER_BYTES) as u16;
         o += 1;
     }
+}
+
+// An owner, or 0 where it is the one named.
+fn unnamed(name: u16, v: u16) -> u16
+    ensures { λ r. ⌜ r ≡ unnamed name v ⌝ }
+{
+    if v == name {
+        return 0;
+    }
+    v
+}
+
+// Takes the one named from the owners of the offsets from `first` to `last`.
+fn take(owners: &mut [u16], name: u16, first: usize, last: usize)
+    requires { ⌜ (length (now owners) ≡ offsets) × (first ≤ last) × (last < offsets) ⌝ }
+    ensures { λ _. ⌜ now (owners .exit) ≡ without name (suc (last - first)) first (now (owners .entry)) ⌝ }
+{
+    let mut o = first;
+    while o <= last {
+        owners[o] = unnamed(name, owners[o]);
+        o += 1;
+    }
+}
+
+// Whether an approximate record owns its ends; if so, what it owns in its range is taken.
+fn owns_ends(owners: &mut [u16], r: Record) -> bool
+    requires { ⌜ (length (now owners) ≡ offsets) × (r .start + r .span ≤ 255) ⌝ }
+    ensures { λ t. ⌜ (t ≡ ownsEnds (approx r) (now (owners .entry)) r) × (t ≡ true → now (owners .exit) ≡ taken (approx r) (now (owners .entry)) r) ⌝ }
+{
+    if r.word % 2 == 0 {
+        return true;
+    }
+    let first = r.start as usize;
+    let last = (r.start + r.span) as usize;
+    let name = (r.start + 1) as u16;
+    if owners[first] != name {
+        return false;
+    }
+    if owners[last] != name {
+        return false;
+    }
+    take(owners, name, first, last);
     true
+}
+
+// Whether each slot may stand behind those before it and owns its ends; if so, the owners that no record's range has are left.
+fn slots_pass(b: &[u8], owners: &mut [u16], m: u32) -> bool
+    requires { ⌜ (length (now b) ≡ groupLength) × (usedOf (now b) ≤ groupLimit) × (length (now owners) ≡ offsets) × (m ≤ offsets) ⌝ }
+    ensures { λ t. ⌜ (t ≡ slotsPass m 0 0 (now (owners .entry)) (slotsOf (now (b .entry)))) × (t ≡ true → now (owners .exit) ≡ leftBy (now (owners .entry)) (slotsOf (now (b .entry)))) ⌝ }
+{
+    let end = used(b) as usize;
+    let mut levels = 0;
+    let mut free = 0;
+    let mut i = 0;
+    while i < end {
+        let s = slot_at(b, i);
+        if !stands(s, m, levels, free) {
+            return false;
+        }
+        let r = s.held;
+        if !owns_ends(owners, r) {
+            return false;
+        }
+        levels = s.level + 1;
+        free = OFFSETS * s.level + r.start + r.span + 1;
+        i += 1;
+    }
+    true
+}
+
+// Whether no offset has an owner.
+fn unowned(owners: &[u16]) -> bool
+    requires { ⌜ length (now owners) ≡ offsets ⌝ }
+    ensures { λ t. ⌜ t ≡ unowned (now (owners .entry)) ⌝ }
+{
+    let mut any = 0;
+    let mut o = 0;
+    while o < OFFSETS as usize {
+        any |= owners[o];
+        o += 1;
+    }
+    any == 0
 }
 
 // Whether the bytes are a sound group's: group k of n pages.
@@ -294,9 +331,14 @@ pub fn sound(b: &[u8], n: u32, k: u32) -> bool
     if SLOTS < used(b) {
         return false;
     }
-    let mut ends = [0u32; OFFSETS as usize];
-    if !slots_pass(b, &mut ends, n, k) {
+    let m = offsets_in(n, k);
+    if flag(b) == 0 {
+        return plain_pass(b, m);
+    }
+    let mut owners = [0u16; OFFSETS as usize];
+    copy_entries(b, &mut owners);
+    if !slots_pass(b, &mut owners, m) {
         return false;
     }
-    owners_pass(b, &ends)
+    unowned(&owners)
 }

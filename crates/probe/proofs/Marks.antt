@@ -8,19 +8,19 @@ use lib.Dec.{leb, eqb}
 use lib.ListN.{getD}
 use borrow.Author.Tests.{eqb-true, eq-eqb, ne-eqb, le-leb, leb-true}
 use Rattle.model.specs.Lists.{elem}
-use Rattle.model.specs.Record.{Kind, single, accurate, approximate, kindOf, covers, memberAs, member}
+use Rattle.model.specs.Record.{covers, member}
 use Rattle.model.specs.Sound.{soundRecord}
 use Rattle.model.proofs.Bools.{and-l, and-r, and-i, iff-bool, is-false}
 use Rattle.model.proofs.Order.{sound-within}
 use Rattle.record.specs.declared.Record.{Record}
-use Rattle.record.specs.Read.{asRecord}
+use Rattle.record.specs.Read.{asRecord, OwnedAs}
 use Rattle.record.specs.Scan.{masked}
 use Rattle.group.specs.declared.Slot.{Slot}
-use Rattle.group.specs.Reading.{everyFrom, ownedBy, ownedAs}
-use Rattle.group.specs.Checking.{approx, endOf, shaped}
+use Rattle.group.specs.Reading.{everyFrom}
+use Rattle.group.specs.Checking.{approx, endOf, offsetsIn, shaped}
 use Rattle.group.proofs.Members.{every-of, of-every}
 use Rattle.group.proofs.Ends.{Ends, owned-by}
-use Rattle.group.proofs.Shapes.{sound-shaped, sound-ends, sound-of}
+use Rattle.group.proofs.Shapes.{owned-approx, sound-shaped, sound-ends, sound-of}
 use Rattle.probe.specs.Groups.{bit, ownerIf, ownersBy, recordBy, marks, fitting, markedAs, marked, endsMarked}
 
 -- the record owns, by the owners of the mask, what the mask has
@@ -35,22 +35,17 @@ module _ (m : List ℕ) (r : Record) where
   alone = record { level = 0; held = r }
 
   module _ (o : ℕ) (h : o < 256) where
-    member-by : (owned t : Bool) → masked m o ≡ owned → ((L : List ℕ) → elem o L ≡ owned → t ≡ member (asRecord r L) o) → t ≡ member (recordBy m r) o
-    unfolding member memberAs ownedAs covers
-    member-by owned t e f =
-        f (ownedBy (ownersBy m r) (r .start)) (owned-by (ownersBy m r) (r .start) o h ∙ owner-masked (masked m o) (r .start) ∙ e) ∙ go (kindOf (r .word))
-      where
-        go : (k : Kind) → memberAs k (asRecord r (ownedBy (ownersBy m r) (r .start))) o ≡ memberAs k (asRecord r (ownedAs k (ownersBy m r) (r .start))) o
-        go single = refl
-        go (accurate d) = refl
-        go (approximate a) = refl
+    member-by : (owned t : Bool) → masked m o ≡ owned → (owned ≡ true → covers (recordBy m r) o ≡ true)
+        → ((L : List ℕ) → OwnedAs r o owned L → t ≡ member (asRecord r L) o) → t ≡ member (recordBy m r) o
+    member-by owned t e within f =
+        f (recordBy m r .owned) (λ a. (ap (elem o) (owned-approx (ownersBy m r) alone a) ∙ owned-by (ownersBy m r) (r .start) o h ∙ owner-masked (masked m o) (r .start) ∙ e, within))
 
     -- One offset's test, a law for each way to answer.
-    pub marked-zero : (t : Bool) → getD m o 0 ≡ 0 → ((L : List ℕ) → elem o L ≡ false → t ≡ member (asRecord r L) o) → not t ≡ marked m r o
+    pub marked-zero : (t : Bool) → getD m o 0 ≡ 0 → ((L : List ℕ) → OwnedAs r o false L → t ≡ member (asRecord r L) o) → not t ≡ marked m r o
     unfolding markedAs
     marked-zero t e f =
         let k : masked m o ≡ false = ap not (eq-eqb (getD m o 0) 0 e) in
-        ap not (member-by false t k f) ∙ ap (λ (n : ℕ). markedAs n (member (recordBy m r) o) (covers (recordBy m r) o)) (sym e)
+        ap not (member-by false t k (λ x. absurd (true≢false (sym x))) f) ∙ ap (λ (n : ℕ). markedAs n (member (recordBy m r) o) (covers (recordBy m r) o)) (sym e)
 
     pub marked-many : (getD m o 0 ≡ 0 → ⊥) → (getD m o 0 ≡ 1 → ⊥) → false ≡ marked m r o
     unfolding markedAs
@@ -68,12 +63,12 @@ module _ (m : List ℕ) (r : Record) where
         rw (k, e)
 
     pub marked-one : (t u : Bool) → getD m o 0 ≡ 1 → ((L : List ℕ) → t ≡ covers (asRecord r L) o) → t ≡ true
-        → ((L : List ℕ) → elem o L ≡ true → u ≡ member (asRecord r L) o) → u ≡ marked m r o
+        → ((L : List ℕ) → OwnedAs r o true L → u ≡ member (asRecord r L) o) → u ≡ marked m r o
     unfolding markedAs
     marked-one t u e f q g =
         let k : covers (recordBy m r) o ≡ true = sym (f _) ∙ q in
         let l : masked m o ≡ true = ap not (ne-eqb (getD m o 0) 0 (λ z. absurd (omega arith))) in
-        rw (k, e) (member-by true u l g)
+        rw (k, e) (member-by true u l (λ x. k) g)
 
   -- The test of the ends, likewise.
   pub ends-other : approx r ≡ false → true ≡ endsMarked (approx r) m r
@@ -130,7 +125,8 @@ module _ (m : List ℕ) (r : Record) where
     unfolding fitting
     sound-by = and-l (soundRecord 256 0 (recordBy m r)) _ h
 
-    fits-shaped : shaped 256 0 r ≡ true
+    fits-shaped : shaped 256 r ≡ true
+    unfolding offsetsIn
     fits-shaped = sound-shaped (ownersBy m r) alone 256 0 sound-by
 
     fits-ends : endsMarked (approx r) m r ≡ true
@@ -152,9 +148,9 @@ module _ (m : List ℕ) (r : Record) where
         (λ q. let w = sound-within 256 0 (recordBy m r) sound-by o q in and-i _ _ (le-leb _ _ (w .0)) (le-leb _ _ (w .1))))
 
   -- A record and a mask that pass the tests fit.
-  module _ (shape : shaped 256 0 r ≡ true) (ends : endsMarked (approx r) m r ≡ true) where
+  module _ (shape : shaped 256 r ≡ true) (ends : endsMarked (approx r) m r ≡ true) where
     tested : everyFrom (marked m r) 256 0 ≡ true → fitting m r ≡ true
-    unfolding fitting endsMarked covers ownerIf
+    unfolding fitting endsMarked covers ownerIf offsetsIn
     tested h = and-i _ _ (sound-of (ownersBy m r) alone 256 0 shape owns) (of-every (marks m r) 256 0 (λ o a b. marked-marks o (every-of (marked m r) 256 0 h o a b)))
       where
         both : approx r ≡ true → (masked m (r .start) && masked m (endOf r)) ≡ true
@@ -173,7 +169,7 @@ module _ (m : List ℕ) (r : Record) where
     all-tests t e = e ∙ iff-bool _ _ tested fits-marked
 
   -- One that fails a test doesn't.
-  pub not-shaped : shaped 256 0 r ≡ false → false ≡ fitting m r
+  pub not-shaped : shaped 256 r ≡ false → false ≡ fitting m r
   not-shaped e = sym (is-false _ (λ h. true≢false (sym (fits-shaped h) ∙ e)))
 
   pub not-ends : endsMarked (approx r) m r ≡ false → false ≡ fitting m r

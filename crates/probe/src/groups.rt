@@ -2,12 +2,13 @@
 use group::Hit;
 use record::Record;
 ghost use mathlib.Core.Path.{_≡_};
+ghost use mathlib.Core.Bool.{true};
 ghost use Prim.Native.Nat.{_+_, _≤_, _<_};
 ghost use lib.ListN.{length};
 ghost use Rattle.record.specs.Coding.{InEight};
 ghost use Rattle.group.specs.Layout.{offsets};
 ghost use Rattle.group.specs.Reading.{everyFrom};
-ghost use Rattle.group.specs.Checking.{approx};
+ghost use Rattle.group.specs.Checking.{approx, shaped};
 ghost use Rattle.probe.specs.Groups.{soundness, isSound, finding, Compacts, marked, endsMarked, fitting, hasRoom, insertable, Inserts};
 
 const OUTSIDE: u64 = 18446744073709551615;
@@ -77,7 +78,7 @@ pub extern "C" fn probe_group_compact(part: &mut [u8]) -> u64
 
 // Whether the mask's byte at offset o is as the record says.
 fn marked(r: Record, mask: &[u8], o: u32) -> bool
-    requires { ⌜ (length (now mask) ≡ offsets) × (o < offsets) ⌝ }
+    requires { ⌜ (length (now mask) ≡ offsets) × (o < offsets) × (shaped offsets r ≡ true) ⌝ }
     ensures { λ t. ⌜ t ≡ marked (now (mask .entry)) r o ⌝ }
 {
     let byte = mask[o as usize];
@@ -95,7 +96,7 @@ fn marked(r: Record, mask: &[u8], o: u32) -> bool
 
 // Whether each byte is.
 fn all_marked(r: Record, mask: &[u8]) -> bool
-    requires { ⌜ length (now mask) ≡ offsets ⌝ }
+    requires { ⌜ (length (now mask) ≡ offsets) × (shaped offsets r ≡ true) ⌝ }
     ensures { λ t. ⌜ t ≡ everyFrom (marked (now (mask .entry)) r) offsets 0 ⌝ }
 {
     let mut o = 0;
@@ -129,7 +130,7 @@ fn fits(r: Record, mask: &[u8]) -> bool
     requires { ⌜ (length (now mask) ≡ offsets) × InEight r ⌝ }
     ensures { λ t. ⌜ t ≡ fitting (now (mask .entry)) r ⌝ }
 {
-    if !group::shaped(r, group::OFFSETS, 0) {
+    if !group::shaped(r, group::OFFSETS) {
         return false;
     }
     if !ends_marked(r, mask) {

@@ -1,5 +1,5 @@
 -- The kind that a word gives: 0, even above 0, odd. Assumes nothing.
-use mathlib.Core.Path.{_≡_, refl, _∙_}
+use mathlib.Core.Path.{_≡_, refl, sym, _∙_}
 use mathlib.Core.Bool.{Bool, true, false}
 use Prim.Native.Nat.{ℕ, _/_, _%_}
 use native.Mathlib.Omega.{arith}
@@ -30,6 +30,9 @@ odd-test w = go (eqb (w % 2) 1) (eqb w 0) refl refl
     go true z e f = rw (kind-odd w (eqb-true _ _ e))
     go false true e f = rw (kind-zero w (eqb-true _ _ f))
     go false false e f = rw (kind-even w (eqb-false _ _ f) (eqb-false _ _ e))
+
+pub odd-is : (w : ℕ) → w % 2 ≡ 1 → isApproximate (kindOf w) ≡ true
+odd-is w h = sym (odd-test w) ∙ eq-eqb _ _ h
 
 pub odd-of : (w : ℕ) → isApproximate (kindOf w) ≡ true → w % 2 ≡ 1
 odd-of w h = eqb-true _ _ (odd-test w ∙ h)

@@ -1,10 +1,12 @@
 -- What the code's values stand for: the struct as document 01's record, the enums as what they answer. Assumes nothing.
+use mathlib.Core.Path.{_≡_}
 use mathlib.Core.List.{List}
 use mathlib.Core.Option.{Option, none, some}
-use mathlib.Core.Bool.{true, false}
+use mathlib.Core.Bool.{Bool, true, false}
 use Prim.Native.Nat.{ℕ}
 use lib.Dec.{ltb}
 use lib.IntN.{ℤ, pos, negsuc}
+use Rattle.model.specs.Lists.{elem}
 use Rattle.model.specs.Record as model
 use Rattle.record.specs.declared.Record.{Record}
 use Rattle.record.specs.declared.Page.{Page}
@@ -19,6 +21,10 @@ asRecord r owned = record { start = r .start; span = r .span; word = r .word; in
 -- a record's four numbers
 abbrev pub bare : model.Record → Record
 bare r = record { start = r .start; span = r .span; word = r .word; intercept = r .intercept }
+
+-- `owned` says whether offset o is among those that an approximate record owns, which then lies in its range
+abbrev pub OwnedAs : Record → ℕ → Bool → List ℕ → Type 0
+OwnedAs r o owned L = model.isApproximate (model.kind (asRecord r L)) ≡ true → (elem o L ≡ owned) × (owned ≡ true → model.covers (asRecord r L) o ≡ true)
 
 -- the page that there is, if any
 unfoldable pub pageOf : Page → Option ℕ

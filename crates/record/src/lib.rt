@@ -8,7 +8,7 @@ ghost use lib.ListN.{length};
 ghost use Rattle.model.specs.Lists.{elem, select, store};
 ghost use Rattle.model.specs.Record.{kind, isApproximate, end, covers, member, rise, predict};
 ghost use Rattle.model.specs.Levels.{meets, shrunkToAny, shrink};
-ghost use Rattle.record.specs.Read.{asRecord, bare, pageOf, existing, leftOf};
+ghost use Rattle.record.specs.Read.{asRecord, bare, OwnedAs, pageOf, existing, leftOf};
 ghost use Rattle.record.specs.Scan.{masked, stays, onStride, First, Last};
 ghost use Rattle.record.specs.Coding.{recordWidth, recordAt, eight, InEight};
 
@@ -60,21 +60,23 @@ impl Record {
         o - self.start <= self.span
     }
 
-    // Whether offset o is a member; of an approximate record, those that it owns are.
+    // Whether offset o is a member; of an approximate record, those that it owns are, which lie in its range.
     pub fn member(self, o: u32, owned: bool) -> bool
-        ensures { λ r. ⌜ ((L : List ℕ) → elem o L ≡ owned → r ≡ member (asRecord self L) o) ⌝ }
+        requires { ⌜ (o < 256) × (self .start + self .span ≤ 255) × (self .word ≡ 0 → self .span ≡ 0) ⌝ }
+        ensures { λ r. ⌜ ((L : List ℕ) → OwnedAs self o owned L → r ≡ member (asRecord self L) o) ⌝ }
     {
+        let x = (o + 256 - self.start) % 256;
+        if self.span < x {
+            return false;
+        }
         let w = self.word;
         if w % 2 == 1 {
             return owned;
         }
-        if w == 0 {
-            return o == self.start;
+        if w <= 2 {
+            return true;
         }
-        if self.covers(o) {
-            return (o - self.start) % (w / 2) == 0;
-        }
-        false
+        x % (w / 2) == 0
     }
 
     // What is added to the intercept at offset o.

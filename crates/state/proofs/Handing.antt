@@ -15,7 +15,7 @@ use Rattle.model.specs.Sound.{soundGroup, soundGroups, soundState}
 use Rattle.model.proofs.Bools.{and-l}
 use Rattle.model.proofs.SoundGroups.{group-sound}
 use Rattle.bytes.proofs.Stores.{lent-back}
-use Rattle.group.specs.Reading.{encodes, readGroup}
+use Rattle.group.specs.Reading.{encodes, readGroup, SoundBytes}
 use Rattle.group.proofs.Soundness.{sound-encodes}
 use Rattle.state.specs.Regions.{groupRegion, cell}
 use Rattle.state.specs.Reading.{numbersAt, groupPlace, readState}
@@ -79,9 +79,13 @@ module _ (d : Device) (s : List ℕ) (h : Shaped d (readState s)) (k a e : ℕ) 
       let there : groupPlace (numbersAt s) (suc k) ≡ a + (e - a) = ap (λ (c : Device). groupPlace c (suc k)) (numbers-are d s h) ∙ next in
       record { before = rw here (before-part s t a (e - a) low n); behind = rw there (behind-part s t a (e - a) low n) }
 
--- a sound group's part encodes it
-pub part-encodes : (s : List ℕ) (k a e N : ℕ) → GroupPart s k a e → soundGroup N k (groupAt (readState s) k) ≡ true → encodes (take (e - a) (drop a s)) ≡ true
-part-encodes s k a e N l q = sound-encodes N k (take (e - a) (drop a s)) (ap (soundGroup N k) (l .group) ∙ q)
+-- a sound group's part is read as one, and encodes it
+module _ (s : List ℕ) (k a e N : ℕ) (l : GroupPart s k a e) (q : soundGroup N k (groupAt (readState s) k) ≡ true) where
+  pub part-sound : SoundBytes (take (e - a) (drop a s))
+  part-sound = record { pages = N; number = k; sound = ap (soundGroup N k) (l .group) ∙ q }
+
+  pub part-encodes : encodes (take (e - a) (drop a s)) ≡ true
+  part-encodes = sound-encodes _ _ _ (part-sound .sound)
 
 -- whether the groups from k on are sound
 unfoldable pub groupsSound : State → ℕ → ℕ → Bool

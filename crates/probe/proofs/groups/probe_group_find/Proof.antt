@@ -7,7 +7,6 @@ use borrow.Author.Tests.{not-true, not-false}
 use borrow.Author.Needs.{needs}
 use Rattle.group.specs.declared.Hit.{Hit}
 use Rattle.group.specs.Answers.{lookedOf}
-use Rattle.group.proofs.Soundness.{sound-encodes}
 use Rattle.probe.specs.Groups.{isSound}
 use Rattle.probe.proofs.Conditions.{size, sound, not-sound, not-below, levels-bounded, found-at, found-nowhere}
 use Rattle.probe.proofs.groups.probe_group_find.Statement.{statement}
@@ -33,7 +32,7 @@ returns : tie.Need-returns
 returns c = not-sound _ _ (sym (c .before .is-sound .ensures) ∙ not-true _ (c .if1 .taken))
 
 find-requires : tie.Need-find-requires
-find-requires c κs = (size _ (is-group (c .before)), sound-encodes 256 0 _ (sound _ (is-group (c .before))), c .if2 .left)
+find-requires c κs = (size _ (is-group (c .before)), record { pages = 256; number = 0; sound = sound _ (is-group (c .before)) }, c .if2 .left)
 
 mul-result : tie.Need-mul-result
 mul-result c = omega (arith, levels c)

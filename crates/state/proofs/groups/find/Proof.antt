@@ -1,10 +1,10 @@
--- The part is group k, and it encodes one because that is sound.
+-- The part is group k, and is read as a sound one because that is.
 use native.Mathlib.Omega.{arith}
 use mathlib.Core.Path.{ap, _∙_}
 use mathlib.Core.Option.{Option·map}
 use Rattle.model.specs.Levels.{Group, listing, holder, levelsTo}
 use Rattle.record.specs.Read.{bare}
-use Rattle.state.proofs.Handing.{GroupPart, lent, part-encodes}
+use Rattle.state.proofs.Handing.{GroupPart, lent, part-sound}
 use borrow.Author.Needs.{needs}
 use Rattle.state.proofs.groups.find.Statement.{statement}
 use Rattle.state.proofs.groups.find.Tie as tie
@@ -17,7 +17,7 @@ part-find-end : tie.Need-part-find-end
 part-find-end c = omega (arith, part c .inside)
 
 find-requires : tie.Need-find-requires
-find-requires c κs = (part (c .before) .size, part-encodes _ _ _ _ _ (part (c .before)) (c .before .before .before .before .pre .2), c .before .before .before .before .pre .3)
+find-requires c κs = (part (c .before) .size, part-sound _ _ _ _ _ (part (c .before)) (c .before .before .before .before .pre .2), c .before .before .before .before .pre .3)
 
 returns : tie.Need-returns
 returns c =
