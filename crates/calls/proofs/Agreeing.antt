@@ -17,7 +17,7 @@ use Rattle.calls.proofs.Found.{seek-found, seek-nowhere}
 use Rattle.calls.proofs.Passing.{numbers-there, state-right, spare-right}
 
 -- a test that each number below n passes
-each-below : (n : ℕ) (t : ℕ → Bool) → ((x : ℕ) → x < n → t x ≡ true) → eachBelow n t ≡ true
+pub each-below : (n : ℕ) (t : ℕ → Bool) → ((x : ℕ) → x < n → t x ≡ true) → eachBelow n t ≡ true
 unfolding eachBelow
 each-below zero t h = refl
 each-below (suc n) t h = and-i (t n) (eachBelow n t) (h n (omega arith)) (each-below n t (λ x b. h x (omega arith)))

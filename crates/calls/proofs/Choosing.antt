@@ -16,7 +16,8 @@ use Rattle.model.proofs.Counting.{elem-append, elem-left, elem-right, asc-disti
 use Rattle.model.proofs.Blocks.{used-only, used-asc}
 use Rattle.model.proofs.Limits.{page-block, page-split}
 use Rattle.calls.specs.Choice.{Used, usedBy, ranked, victimsBy, blocksOf, pagesOf}
-use Rattle.calls.proofs.Ranking.{Each, none, both, ranked-each, ranked-elem, ranked-distinct, taken-each, taken-elem, taken-distinct, taken-fits}
+use Rattle.calls.specs.Ranked.{Each, none, both}
+use Rattle.calls.proofs.Ranking.{ranked-each, ranked-elem, ranked-distinct, taken-each, taken-elem, taken-distinct, taken-fits}
 
 module _ (valid : ℕ → Bool) (d : Device) where
   -- a block with its own valid pages

@@ -1,5 +1,6 @@
 pub mod Refusing
 pub mod Ranking
+pub mod Ties
 pub mod Choosing
 pub mod Naming
 pub mod Moves
@@ -23,6 +24,7 @@ pub mod Decided
 pub mod Passing
 pub mod Refining
 pub mod Agreeing
+pub mod Alike
 pub mod PredictedPage
 pub mod Bounds
 pub mod Demand3

@@ -87,13 +87,6 @@ module _ (s : State) (spare : List ℕ) (place : ℕ → Option ℕ) (v : Inv s 
   learned-sound : (j : ℕ) → all (soundRecord (s .device .N) j) (recordsFor j runsOf) ≡ true
   learned-sound j = records-sound (s .device .N) (s .device .g) first j w (r .ascends) (r .logical)
 
-  state-sound : soundState afterWrite ≡ true
-  unfolding soundState writeState withGroups withCounts
-  state-sound =
-      and-i _ _
-      (takeInAll-sound (s .device .N) 0 runsOf (s .groups) groups-were-sound learned-sound (λ j. omega (arith, recordsFor-length (s .device .g) first j w, fitsBlock, limits (s .device) (v .limits) .most-B)))
-      (counts-set (s .device .B) (s .counts) k (length ws) (r .fits) counts-were)
-
   -- what is met afterwards, through the learned records
   met-after : (x : ℕ) → x < s .device .N → met (offsetOf x) (listing (groupAt afterWrite (groupOf x))) ≡ overlay (offsetOf x) (recordsFor (groupOf x) runsOf) (met (offsetOf x) (listing (groupAt s (groupOf x))))
   unfolding writeState withGroups withCounts groupAt
@@ -166,6 +159,14 @@ module _ (s : State) (spare : List ℕ) (place : ℕ → Option ℕ) (v : Inv s 
             above = omega (arith, h .above, h .from);
             below = omega (arith, h .below);
           }
+
+  -- the state stays sound
+  state-sound : soundState afterWrite ≡ true
+  unfolding soundState writeState withGroups withCounts
+  state-sound =
+      and-i _ _
+      (takeInAll-sound (s .device .N) 0 runsOf (s .groups) groups-were-sound learned-sound (λ j. omega (arith, recordsFor-length (s .device .g) first j w, fitsBlock, limits (s .device) (v .limits) .most-B)))
+      (counts-set (s .device .B) (s .counts) k (length ws) (r .fits) counts-were)
 
   -- Writing block k keeps the invariant.
   pub write-inv : Inv afterWrite (programBlock (s .device) w k spare) (λ x. spot x first w (place x))

@@ -4,12 +4,14 @@ pub mod Format
 pub mod Flush
 pub mod Lookup
 pub mod Choice
+pub mod Ranked
 pub mod Collection
 pub mod Compaction
 pub mod Agreement
 pub mod Listing
 pub mod Book
 pub mod History
+pub mod Alike
 pub mod Bounds
 pub mod PageMap
 pub mod Demand3

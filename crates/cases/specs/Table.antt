@@ -3,13 +3,12 @@ use mathlib.Core.Path.{_≡_, refl}
 use mathlib.Core.List.{List, [], _∷_, _++_}
 use Prim.Native.Nat.{ℕ, zero, suc}
 use lib.IntN.{pos, negsuc}
-use lib.ListN.{replicate}
-use Rattle.model.specs.Device.{Device, stateLength, spareLength}
+use Rattle.model.specs.Device.{Device}
 use Rattle.calls.specs.Refusals.{noFreeBlock}
 use Rattle.calls.specs.Outcome.{formatted, flushed, found, collected, refused}
-use Rattle.calls.specs.Book.{blankBook}
-use Rattle.calls.specs.History.{Call, formatCall, flushCall, lookupCall, collectCall, Past, step, steps}
+use Rattle.calls.specs.History.{Call, formatCall, lookupCall, Past, step, steps}
 use Rattle.cases.specs.Shown.{Shown, records, predictions, plan, answer, row, learned, predicted, planned, called, lookups}
+use Rattle.cases.specs.Small.{small, unformatted, flushOn, collectOn}
 use Rattle.cases.specs.Opens.{everything}
 
 -- the n logical pages from x on
@@ -17,31 +16,17 @@ pages : ℕ → ℕ → List ℕ
 pages zero x = []
 pages (suc n) x = x ∷ pages n (suc x)
 
--- buffers of the right lengths for a device, before its format; what they hold is of no account
-unformatted : Device → Past
-unformatted d = record {
-  state = record { bytes = stateLength d; device = d; counts = []; groups = [] };
-  spare = replicate (spareLength d) 7;
-  book = blankBook;
-}
-
--- "M 3, B 4, N 4, g 0": lent lists full of 99, so that the entries that stay are seen
-small : Device
-small = record { M = 3; B = 4; N = 4; g = 0 }
-
+-- "M 3, B 4, N 4, g 0"
 smallCalls : List Call
 smallCalls =
-    let four : List ℕ = replicate 4 99 in
-    let three : List ℕ = replicate 3 99 in
-    formatCall small ∷ flushCall (0 ∷ []) four ∷ flushCall (0 ∷ []) four ∷ flushCall (0 ∷ []) four ∷ collectCall four three ∷ lookupCall 0 ∷ []
+    formatCall small ∷ flushOn small (0 ∷ []) ∷ flushOn small (0 ∷ []) ∷ flushOn small (0 ∷ []) ∷ collectOn small ∷ lookupCall 0 ∷ []
 
 -- "Script (M 9, B 64, N 256, g 1; after the paper's figure 13)"
 scripted : Device
 scripted = record { M = 9; B = 64; N = 256; g = 1 }
 
--- a flush with a plan of B entries
 flushOf : List ℕ → Call
-flushOf batch = flushCall batch (replicate 64 0)
+flushOf batch = flushOn scripted batch
 
 -- "flush 0 to 63; 200 to 255; 16 to 31; 75, 78, 82; 72, 73, 80"
 early : Past
@@ -102,5 +87,5 @@ stated =
 
 -- The table.
 pub table : given ≡ stated
-unfolding everything pages unformatted small smallCalls scripted flushOf early late given stated
+unfolding everything small unformatted flushOn collectOn pages smallCalls scripted flushOf early late given stated
 table = refl

@@ -20,7 +20,7 @@ use Rattle.model.proofs.Limits.{limits, page-inside, page-split}
 use Rattle.calls.specs.Lookup.{Looked, at, nowhere, unnamed, seek}
 use Rattle.calls.specs.Choice.{Used, blocksOf, pagesOf, usedBy}
 use Rattle.calls.specs.Collection.{valid, usedBlock, victims, gives}
-use Rattle.calls.proofs.Ranking.{Each, both}
+use Rattle.calls.specs.Ranked.{Each, both}
 use Rattle.calls.proofs.Choosing.{Own, own-distinct, victims-own, victim-used, victims-distinct, page-taken}
 
 -- a lookup gives one page

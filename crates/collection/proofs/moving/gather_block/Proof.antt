@@ -55,7 +55,7 @@ add-middle c = omega (arith, page-fits _ _ _ (c .before .before .before .before 
 middle-requires : tie.Need-middle-requires Inv-loop μ-loop
 middle-requires c κs =
     let passed = c .before .before .before .before .before .before .before .before .pre .0 in
-    (passed .shape .limits, passed .fits, in-device _ _ _ passed _ _ (c .before .before .before .before .before .before .before .before .pre .1) (c .before .before .loop-test .taken))
+    (passed .shape .limits, passed .fits, omega (arith, in-device _ _ _ passed _ _ (c .before .before .before .before .before .before .before .before .pre .1) (c .before .before .loop-test .taken)))
 
 -- there is room for one more
 room : (c : tie.After-middle Inv-loop μ-loop) → c .before .before .before .before .loop .n < c .before .before .before .before .before .before .before .before .before .args .n + length (usedBlock (readState (c .before .before .before .before .before .before .before .before .before .args .state .now)) (c .before .before .before .before .before .before .before .before .before .args .spare .now) (c .before .before .before .before .before .before .before .before .before .args .k) .pages)
