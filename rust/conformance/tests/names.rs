@@ -42,8 +42,9 @@ fn in_capitals(name: &str) -> String {
 
 #[test]
 fn in_the_wrapper() {
-    let wrapper = hedjosur::Refusal::ALL.map(|refusal| (format!("{refusal:?}"), refusal.number()));
-    assert_eq!(wrapper.to_vec(), refusals());
+    let wrapper = hedjosur::Refusal::ALL.iter();
+    let wrapper = wrapper.map(|refusal| (format!("{refusal:?}"), refusal.number()));
+    assert_eq!(Vec::from_iter(wrapper), refusals());
 }
 
 #[test]

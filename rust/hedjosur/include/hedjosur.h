@@ -1,32 +1,118 @@
 /*
- * Hedjosur, a learned page table for raw flash: the functions of the static
- * library libexport.a, which `rt staticlib export` builds.
+ * Hedjosur, a learned page table for raw flash, for C and C++: the functions of the
+ * static library libexport.a, which `rt staticlib export` builds.
  *
- * A driver owns the flash. It lends the table two buffers, the state (bytes) and
- * the spare area (2g + 1 entries of 32 bits for each page, page after page), and
- * is told where pages go and where they are.
+ * A driver owns the flash. It lends the table two buffers, the state and the spare
+ * area, and is told where pages go and where they are:
  *
- * A slice is passed as a pointer and a length in elements. The pointer may not
- * be null, also where the length is 0, and the slices of one call may not
- * overlap where one of them is written. Nothing else is required: whatever the
- * slices hold and however long they are, a call answers or refuses, and a refused
- * call changes nothing.
+ *     static uint8_t state[HEDJOSUR_STATE_LEN(9, 64, 256, 1)];
+ *     static uint32_t spare[HEDJOSUR_SPARE_LEN(9, 64, 256, 1)];
+ *     static const struct hedjosur_device device = {
+ *         state, sizeof state, spare, sizeof spare / sizeof *spare
+ *     };
+ *     struct hedjosur_place place;
+ *     enum hedjosur_refusal refusal = hedjosur_device_lookup(&device, 82, &place);
+ *     if (refusal != HEDJOSUR_ACCEPTED)
+ *         puts(hedjosur_refusal_text(refusal));
+ *     else if (place.found)
+ *         read_page(place.page);
  *
- * Every call but the two lengths answers one number: hedjosur_refusal(answer) is
- * 0 where the call was accepted, and the other functions below take an accepted
- * answer apart.
+ * examples/gateway.c is a driver in full. What each call answers and why it refuses
+ * stands at the archive's own functions below; those on a struct hedjosur_device, at
+ * the end, are the same calls with their answer taken apart.
+ *
+ * WHATEVER IS LENT, a call answers or refuses; a refused call changes nothing. All
+ * that is required: pointers are not null, also where a length is 0; a slice is
+ * aligned as its element type is (the state not at all, 32-bit entries by 4 bytes);
+ * the slices of one call don't overlap where one of them is written. Two calls on one
+ * device may run at the same time if both only read (lookup, agree, list).
+ *
+ * THE STATE is the table itself: HEDJOSUR_STATE_LEN bytes, exactly. docs/LAYOUT.md
+ * fixes them, so they may be stored and lent again later, together with the spare
+ * area as it was then.
+ *
+ * THE SPARE AREA is what the chip's out-of-band bytes hold, as the driver mirrors
+ * them in memory: 2g + 1 numbers of 32 bits for each page, page after page,
+ * HEDJOSUR_SPARE_LEN entries, exactly. Entry j of page p names the logical page that
+ * was written at page p - g + j by the same flush or collection; 0xFFFFFFFF names
+ * nobody. The table itself writes the mirror, in format, flush and collection. The
+ * driver programs the chip: for each page that a flush or a collection lists, the 2g +
+ * 1 entries at spare + p * (2g + 1) go into the page's out-of-band bytes in the same
+ * program operation as its data, since a page can be programmed only once. In memory
+ * the numbers have the processor's byte order; on the chip the order is the driver's
+ * choice, and low byte first, as in the state, is a good one. 2g + 1 numbers take 4 to
+ * 124 bytes.
+ *
+ * AFTER AN ACCEPTED FORMAT the driver erases every block: the table takes all of them
+ * for erased.
+ *
+ * AFTER AN ACCEPTED FLUSH the driver programs pages first_page to first_page + count -
+ * 1, ascending, page first_page + i with the data of arrival plan[i] of the batch. The
+ * block was erased before: a flush always opens one, and adds to none.
+ *
+ * AFTER A FLUSH REFUSED HEDJOSUR_NO_FREE_BLOCK the driver makes a collection, which is
+ * then accepted, and the same flush again, which is then accepted too: one collection
+ * always helps. AFTER AN ACCEPTED COLLECTION it copies page plan[i] to page first_page
+ * + i, data and the new spare entries, ascending, and then erases the blocks erased[0]
+ * to erased[erased - 1]. Not before: they hold what is copied. An erase may wait until
+ * a flush or a collection opens the block, as the table never looks at the chip.
+ *
+ * STACK. HEDJOSUR_STACK_... below are the bytes that each call needs at most beneath
+ * its caller, held to by a test that measures on a painted stack; nothing recurses and
+ * nothing is allocated. A program that is linked dynamically and binds lazily spends
+ * some 3 KB more in the first call that reaches memset or memcpy (not with -z now).
+ *
+ * LINKING. The archive needs memcpy, memmove and memset, and nothing else. It is code
+ * for x86-64 Linux (System V calls, position independent), because that is what the
+ * kit's compiler makes of the proved source today; for another processor the archive
+ * would have to be made anew, and this header says so instead of the linker.
+ *
+ * WHAT IT DOESN'T DO. Power loss: after one, state and spare area have to be those
+ * from before or after a call whose pages were all programmed; nothing is rebuilt from
+ * the chip. Bad blocks: every block is used. Wear: the lowest free block is always
+ * taken, so wear isn't levelled. Data, caches and time are the driver's.
  */
 #ifndef HEDJOSUR_H
 #define HEDJOSUR_H
 
+#if !defined(__x86_64__) || !defined(__linux__)
+#error "hedjosur: libexport.a is code for x86-64 Linux, there is no other archive today"
+#endif
+
 #include <stddef.h>
 #include <stdint.h>
+
+/* What an accessor below does with an answer that was refused. Define it first where
+ * there is no assert.h. */
+#ifndef HEDJOSUR_ASSERT
+#include <assert.h>
+#define HEDJOSUR_ASSERT(condition) assert(condition)
+#endif
+
+/* A refusal that is not looked at is a warning, where the compiler knows how. */
+#if defined(__GNUC__) || defined(__clang__)
+#define HEDJOSUR_LOOK_AT_IT __attribute__((warn_unused_result))
+#else
+#define HEDJOSUR_LOOK_AT_IT
+#endif
 
 #ifdef __cplusplus
 extern "C" {
 #endif
 
-/* Why a call is refused. */
+/* The version of this header, of the Rust crate and of the archive's interface. */
+#define HEDJOSUR_VERSION "0.1.0"
+#define HEDJOSUR_VERSION_MAJOR 0
+#define HEDJOSUR_VERSION_MINOR 1
+#define HEDJOSUR_VERSION_PATCH 0
+
+/* The version that the caller was compiled with. */
+static inline const char *hedjosur_version(void)
+{
+    return HEDJOSUR_VERSION;
+}
+
+/* Why a call is refused. Later versions may have more reasons. */
 enum hedjosur_refusal {
     HEDJOSUR_ACCEPTED = 0,
     /* The state is too short for the device numbers, or one is outside its limits. */
@@ -47,8 +133,67 @@ enum hedjosur_refusal {
     HEDJOSUR_NOTHING_TO_GAIN = 8
 };
 
+/* A refusal in words. */
+static inline const char *hedjosur_refusal_text(enum hedjosur_refusal refusal)
+{
+    switch (refusal) {
+    case HEDJOSUR_ACCEPTED:
+        return "accepted";
+    case HEDJOSUR_BAD_NUMBERS:
+        return "the device numbers are missing or outside their limits";
+    case HEDJOSUR_BAD_LENGTH:
+        return "a lent slice has a length that doesn't fit the device numbers";
+    case HEDJOSUR_NOT_SOUND:
+        return "the table's bytes are damaged (not sound)";
+    case HEDJOSUR_OUT_OF_RANGE:
+        return "there is no such logical page or group";
+    case HEDJOSUR_BAD_BATCH:
+        return "the batch is empty or longer than a block";
+    case HEDJOSUR_NO_FREE_BLOCK:
+        return "too few blocks are free";
+    case HEDJOSUR_NOT_NAMED:
+        return "the spare area doesn't name the logical page";
+    case HEDJOSUR_NOTHING_TO_GAIN:
+        return "a collection would free no block";
+    }
+    return "a refusal of a newer archive";
+}
+
+/*
+ * Lengths that are known when a device's numbers are, so that buffers can be static
+ * arrays; an argument is evaluated more than once. Numbers outside their limits, which
+ * stand at hedjosur_state_len, have no device and lengths 0. A plan has b entries, a
+ * list of erased blocks m.
+ */
+#define HEDJOSUR_IS_DEVICE(m, b, n, g)                                                   \
+    (3 <= (m) && (m) <= 4096 && 4 <= (b) && (b) <= 256 && 1 <= (n) &&                    \
+     2 * (uint64_t)(n) <= ((uint64_t)(m) - 1) * (uint64_t)(b) && (uint64_t)(g) <= 15)
+#define HEDJOSUR_GROUPS(n) (((size_t)(n) + 255) / 256)
+#define HEDJOSUR_STATE_LEN(m, b, n, g)                                                   \
+    (HEDJOSUR_IS_DEVICE(m, b, n, g)                                                      \
+         ? 16 + 2 * (size_t)(m) + 5636 * HEDJOSUR_GROUPS(n) : (size_t)0)
+#define HEDJOSUR_SPARE_LEN(m, b, n, g)                                                   \
+    (HEDJOSUR_IS_DEVICE(m, b, n, g)                                                      \
+         ? (size_t)(m) * (size_t)(b) * (2 * (size_t)(g) + 1) : (size_t)0)
 /* The bytes that a listing needs: 512 records of 10 bytes. */
 #define HEDJOSUR_LISTING_LEN 5120
+
+/* The stack that each call needs at most, in bytes; LEN: the two lengths. */
+#define HEDJOSUR_STACK_LEN 256
+#define HEDJOSUR_STACK_FORMAT 1024
+#define HEDJOSUR_STACK_FLUSH 16384
+#define HEDJOSUR_STACK_LOOKUP 2048
+#define HEDJOSUR_STACK_COLLECT 49152
+#define HEDJOSUR_STACK_COMPACT 4096
+#define HEDJOSUR_STACK_AGREE 4096
+#define HEDJOSUR_STACK_LIST 2048
+
+/*
+ * The archive's functions. A slice is passed as a pointer and a length in elements.
+ * Every call but the two lengths answers one number: hedjosur_refusal_of(answer) is
+ * HEDJOSUR_ACCEPTED where it was accepted, and the accessors below take an accepted
+ * answer apart.
+ */
 
 /*
  * The length of the state in bytes, and of the spare area in entries, for a device
@@ -70,9 +215,10 @@ uint64_t hedjosur_format(uint32_t m, uint32_t b, uint32_t n, uint32_t g,
 /*
  * Flushes a batch of 1 to b logical pages, in the order of their arrival. The plan
  * has b entries; for each page to write, from the first on, it gets the index in
- * the batch of what is stored there, and its later entries stay. Answers
- * hedjosur_first_page and hedjosur_count. Refuses 1, 2, 3, 5, 4, and 6 where fewer
- * than two blocks are free.
+ * the batch of what is stored there, and its later entries stay. Of a logical page
+ * that arrived more than once, the last arrival counts. Answers hedjosur_first_page
+ * and hedjosur_count. Refuses 1, 2, 3, 5, 4, and 6 where fewer than two blocks are
+ * free.
  */
 uint64_t hedjosur_flush(uint8_t *state, size_t state_len,
                         uint32_t *spare, size_t spare_len,
@@ -124,52 +270,62 @@ uint64_t hedjosur_agree(const uint8_t *state_a, size_t state_a_len,
 uint64_t hedjosur_list(const uint8_t *state, size_t state_len, uint32_t group,
                        uint8_t *out, size_t out_len);
 
-/* Any answer: the refusal's number, 0 where the call was accepted. */
-static inline enum hedjosur_refusal hedjosur_refusal(uint64_t answer)
+/* Any answer: the refusal, HEDJOSUR_ACCEPTED where the call was accepted. */
+static inline enum hedjosur_refusal hedjosur_refusal_of(uint64_t answer)
 {
     return (enum hedjosur_refusal)(answer >> 60);
+}
+
+/* The same by the name that it had first. */
+#define hedjosur_refusal(answer) hedjosur_refusal_of(answer)
+
+/* Some bits of an answer, which must be an accepted one. */
+static inline uint32_t hedjosur_bits_of(uint64_t answer, int from, uint32_t mask)
+{
+    HEDJOSUR_ASSERT(hedjosur_refusal_of(answer) == HEDJOSUR_ACCEPTED);
+    return (uint32_t)(answer >> from) & mask;
 }
 
 /* A flush or a collection: the first page to write. */
 static inline uint32_t hedjosur_first_page(uint64_t answer)
 {
-    return (uint32_t)(answer & 0xFFFFF);
+    return hedjosur_bits_of(answer, 0, 0xFFFFF);
 }
 
 /* A flush or a collection: how many pages to write. */
 static inline uint32_t hedjosur_count(uint64_t answer)
 {
-    return (uint32_t)(answer >> 20 & 0xFFFFF);
+    return hedjosur_bits_of(answer, 20, 0xFFFFF);
 }
 
 /* A collection: how many blocks to erase. */
 static inline uint32_t hedjosur_erased(uint64_t answer)
 {
-    return (uint32_t)(answer >> 40 & 0xFFFFF);
+    return hedjosur_bits_of(answer, 40, 0xFFFFF);
 }
 
 /* A lookup: 1 where the logical page was written, 0 where it was not. */
 static inline int hedjosur_found(uint64_t answer)
 {
-    return (int)(answer >> 56 & 1);
+    return (int)hedjosur_bits_of(answer, 56, 1);
 }
 
 /* A lookup that found the logical page: the page. */
 static inline uint32_t hedjosur_page(uint64_t answer)
 {
-    return (uint32_t)(answer & 0xFFFFF);
+    return hedjosur_bits_of(answer, 0, 0xFFFFF);
 }
 
 /* A lookup that found the logical page: the predicted page. */
 static inline uint32_t hedjosur_predicted(uint64_t answer)
 {
-    return (uint32_t)(answer >> 20 & 0xFFFFF);
+    return hedjosur_bits_of(answer, 20, 0xFFFFF);
 }
 
 /* A lookup: how many levels were looked at. */
 static inline uint32_t hedjosur_levels(uint64_t answer)
 {
-    return (uint32_t)(answer >> 40 & 0xFFFF);
+    return hedjosur_bits_of(answer, 40, 0xFFFF);
 }
 
 /* A lookup: how many flash reads it takes to get the page. */
@@ -181,13 +337,136 @@ static inline int hedjosur_reads(uint64_t answer)
 /* A compaction or a listing: how many records the group has. */
 static inline uint32_t hedjosur_records(uint64_t answer)
 {
-    return (uint32_t)answer;
+    return hedjosur_bits_of(answer, 0, 0xFFFFFFFF);
 }
 
 /* An agreement: 1 yes, 0 no. */
 static inline int hedjosur_yes(uint64_t answer)
 {
-    return (int)(answer & 1);
+    return (int)hedjosur_bits_of(answer, 0, 1);
+}
+
+/*
+ * The same calls on a device: its two buffers, with their lengths in elements. Each
+ * answers the refusal, and fills what its last pointer is to where it was accepted.
+ */
+struct hedjosur_device {
+    uint8_t *state;
+    size_t state_len;
+    uint32_t *spare;
+    size_t spare_len;
+};
+
+/* Where a flush puts a batch: pages first_page to first_page + count - 1. */
+struct hedjosur_flushed {
+    uint32_t first_page;
+    uint32_t count;
+};
+
+/* Where a logical page is: found is 1 where it was written, else 0, as are the pages. */
+struct hedjosur_place {
+    uint32_t page;
+    uint32_t predicted;
+    uint32_t levels;
+    int found;
+};
+
+/* What a collection moves, and how many blocks are to be erased after that. */
+struct hedjosur_collected {
+    uint32_t first_page;
+    uint32_t count;
+    uint32_t erased;
+};
+
+/* hedjosur_format. The driver then erases all blocks. */
+HEDJOSUR_LOOK_AT_IT
+static inline enum hedjosur_refusal hedjosur_device_format(
+    const struct hedjosur_device *device, uint32_t m, uint32_t b, uint32_t n, uint32_t g)
+{
+    return hedjosur_refusal_of(hedjosur_format(m, b, n, g, device->state, device->state_len,
+                                               device->spare, device->spare_len));
+}
+
+/* hedjosur_flush. The driver then programs the pages by the plan. */
+HEDJOSUR_LOOK_AT_IT
+static inline enum hedjosur_refusal hedjosur_device_flush(
+    const struct hedjosur_device *device, const uint32_t *batch, size_t batch_len,
+    uint32_t *plan, size_t plan_len, struct hedjosur_flushed *flushed)
+{
+    uint64_t answer = hedjosur_flush(device->state, device->state_len, device->spare,
+                                     device->spare_len, batch, batch_len, plan, plan_len);
+    if (hedjosur_refusal_of(answer) == HEDJOSUR_ACCEPTED) {
+        flushed->first_page = hedjosur_first_page(answer);
+        flushed->count = hedjosur_count(answer);
+    }
+    return hedjosur_refusal_of(answer);
+}
+
+/* hedjosur_lookup. */
+HEDJOSUR_LOOK_AT_IT
+static inline enum hedjosur_refusal hedjosur_device_lookup(
+    const struct hedjosur_device *device, uint32_t page, struct hedjosur_place *place)
+{
+    uint64_t answer = hedjosur_lookup(device->state, device->state_len, device->spare,
+                                      device->spare_len, page);
+    if (hedjosur_refusal_of(answer) == HEDJOSUR_ACCEPTED) {
+        place->page = hedjosur_page(answer);
+        place->predicted = hedjosur_predicted(answer);
+        place->levels = hedjosur_levels(answer);
+        place->found = hedjosur_found(answer);
+    }
+    return hedjosur_refusal_of(answer);
+}
+
+/* hedjosur_collect. The driver then copies pages by the plan and erases blocks. */
+HEDJOSUR_LOOK_AT_IT
+static inline enum hedjosur_refusal hedjosur_device_collect(
+    const struct hedjosur_device *device, uint32_t *plan, size_t plan_len,
+    uint32_t *erased, size_t erased_len, struct hedjosur_collected *collected)
+{
+    uint64_t answer = hedjosur_collect(device->state, device->state_len, device->spare,
+                                       device->spare_len, plan, plan_len, erased, erased_len);
+    if (hedjosur_refusal_of(answer) == HEDJOSUR_ACCEPTED) {
+        collected->first_page = hedjosur_first_page(answer);
+        collected->count = hedjosur_count(answer);
+        collected->erased = hedjosur_erased(answer);
+    }
+    return hedjosur_refusal_of(answer);
+}
+
+/* hedjosur_compact, of one of HEDJOSUR_GROUPS(n) groups; records gets those left. */
+HEDJOSUR_LOOK_AT_IT
+static inline enum hedjosur_refusal hedjosur_device_compact(
+    const struct hedjosur_device *device, uint32_t group, uint32_t *records)
+{
+    uint64_t answer = hedjosur_compact(device->state, device->state_len, group);
+    if (hedjosur_refusal_of(answer) == HEDJOSUR_ACCEPTED)
+        *records = hedjosur_records(answer);
+    return hedjosur_refusal_of(answer);
+}
+
+/* hedjosur_agree: yes gets 1 or 0. */
+HEDJOSUR_LOOK_AT_IT
+static inline enum hedjosur_refusal hedjosur_device_agree(
+    const struct hedjosur_device *a, const struct hedjosur_device *b, int *yes)
+{
+    uint64_t answer = hedjosur_agree(a->state, a->state_len, a->spare, a->spare_len,
+                                     b->state, b->state_len, b->spare, b->spare_len);
+    if (hedjosur_refusal_of(answer) == HEDJOSUR_ACCEPTED)
+        *yes = hedjosur_yes(answer);
+    return hedjosur_refusal_of(answer);
+}
+
+/* hedjosur_list; records gets how many out has. */
+HEDJOSUR_LOOK_AT_IT
+static inline enum hedjosur_refusal hedjosur_device_list(
+    const struct hedjosur_device *device, uint32_t group,
+    uint8_t *out, size_t out_len, uint32_t *records)
+{
+    uint64_t answer = hedjosur_list(device->state, device->state_len, group, out, out_len);
+    if (hedjosur_refusal_of(answer) == HEDJOSUR_ACCEPTED)
+        *records = hedjosur_records(answer);
+    return hedjosur_refusal_of(answer);
 }
 
 #ifdef __cplusplus

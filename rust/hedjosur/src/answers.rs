@@ -82,9 +82,9 @@ const REFUSAL: u32 = 60;
 /// The rest of an accepted answer, or the refusal.
 #[inline]
 pub(crate) fn accepted(answer: u64) -> Result<u64, Refusal> {
-    match (answer >> REFUSAL) as usize {
+    match (answer >> REFUSAL) as u8 {
         0 => Ok(answer),
-        number => Err(Refusal::ALL[number - 1]),
+        number => Err(Refusal::of_number(number)),
     }
 }
 
@@ -185,9 +185,19 @@ mod tests {
 
     #[test]
     fn a_refusal_is_the_top_of_the_number() {
-        for (refusal, number) in Refusal::ALL.into_iter().zip(1u32..) {
+        for (refusal, number) in Refusal::ALL.iter().copied().zip(1u32..) {
             assert_eq!(refusal.number(), number);
             assert_eq!(accepted(u64::from(number) << 60), Err(refusal));
+        }
+    }
+
+    /// The four bits of a refusal hold numbers that have no name yet.
+    #[test]
+    fn an_unknown_refusal_is_one_too() {
+        for number in Refusal::ALL.len() as u8 + 1..16 {
+            let refusal = Refusal::Other(number);
+            assert_eq!(accepted(u64::from(number) << 60), Err(refusal));
+            assert_eq!(refusal.number(), u32::from(number));
         }
     }
 }

@@ -3,14 +3,36 @@
 use crate::answers::accepted;
 use crate::{boundary, Collected, Flushed, Listing, Lookup, Refusal};
 
-/// The four numbers of a device.
+/// The state's parts, as docs/LAYOUT.md fixes them: the device numbers, a block's
+/// count, a group.
+const HEAD_LEN: usize = 16;
+const COUNT_LEN: usize = 2;
+const GROUP_LEN: usize = 5636;
+
+/// The logical pages of a group.
+const GROUP_PAGES: u32 = 256;
+
+/// The four numbers of a device. Its lengths are known when it is compiled, so
+/// that buffers can be arrays:
 ///
 /// ```
-/// use hedjosur::Numbers;
+/// use hedjosur::{Device, Numbers};
 ///
-/// let numbers = Numbers { blocks: 3, block_pages: 4, logical_pages: 4, error_bound: 0 };
-/// assert_eq!(numbers.state_len(), Some(5658));
-/// assert_eq!(numbers.spare_len(), Some(12));
+/// const NUMBERS: Numbers =
+///     Numbers { blocks: 3, block_pages: 4, logical_pages: 4, error_bound: 0 };
+/// const STATE: usize = NUMBERS.state_len().expect("numbers inside their limits");
+/// const SPARE: usize = NUMBERS.spare_len().expect("numbers inside their limits");
+/// assert_eq!((STATE, SPARE), (5658, 12));
+/// let mut device = Device { state: [0; STATE], spare: [0; SPARE] };
+/// device.format(NUMBERS)?;
+/// # Ok::<(), hedjosur::Refusal>(())
+/// ```
+///
+/// Numbers outside their limits have no lengths:
+///
+/// ```
+/// # use hedjosur::Numbers;
+/// # let numbers = Numbers { blocks: 3, block_pages: 4, logical_pages: 4, error_bound: 0 };
 /// // 2 × N may be at most (M − 1) × B.
 /// let numbers = Numbers { logical_pages: 5, ..numbers };
 /// assert_eq!(numbers.state_len(), None);
@@ -30,14 +52,62 @@ pub struct Numbers {
 impl Numbers {
     /// The length of the state in bytes, or `None` where a number is outside its
     /// limits.
-    pub fn state_len(self) -> Option<usize> {
-        some_len(boundary::state_len(self))
+    pub const fn state_len(self) -> Option<usize> {
+        match self.is_device() {
+            true => Some(
+                HEAD_LEN
+                    + COUNT_LEN * self.blocks as usize
+                    + GROUP_LEN * self.logical_pages.div_ceil(GROUP_PAGES) as usize,
+            ),
+            false => None,
+        }
     }
 
     /// The length of the spare area in entries of 32 bits, 2g + 1 for each page, or
     /// `None` where a number is outside its limits.
-    pub fn spare_len(self) -> Option<usize> {
-        some_len(boundary::spare_len(self))
+    pub const fn spare_len(self) -> Option<usize> {
+        match self.is_device() {
+            true => Some((self.blocks * self.block_pages * (2 * self.error_bound + 1)) as usize),
+            false => None,
+        }
+    }
+
+    /// How many groups the logical pages make: [`Device::compact`] and
+    /// [`Device::list`] take a number below it. `None` where a number is outside its
+    /// limits.
+    pub const fn groups(self) -> Option<u32> {
+        match self.is_device() {
+            true => Some(self.logical_pages.div_ceil(GROUP_PAGES)),
+            false => None,
+        }
+    }
+
+    /// The lengths of state and spare area as the linked archive answers them. They
+    /// are those of [`state_len`](Numbers::state_len) and
+    /// [`spare_len`](Numbers::spare_len), unless the archive is of another version
+    /// than this crate.
+    pub fn archive_lens(self) -> Option<[usize; 2]> {
+        match [boundary::state_len(self), boundary::spare_len(self)] {
+            [0, 0] => None,
+            lengths => Some(lengths.map(|length| length as usize)),
+        }
+    }
+
+    /// Whether the numbers are inside their limits.
+    const fn is_device(self) -> bool {
+        let Numbers {
+            blocks,
+            block_pages,
+            logical_pages,
+            error_bound,
+        } = self;
+        3 <= blocks
+            && blocks <= 4096
+            && 4 <= block_pages
+            && block_pages <= 256
+            && 1 <= logical_pages
+            && logical_pages <= (blocks - 1) * block_pages / 2
+            && error_bound <= 15
     }
 
     /// M, B, N, g.
@@ -49,10 +119,6 @@ impl Numbers {
             self.error_bound,
         ]
     }
-}
-
-fn some_len(len: u64) -> Option<usize> {
-    (len != 0).then_some(len as usize)
 }
 
 /// A device: its state and its spare area, owned or borrowed, as slices, arrays
@@ -229,5 +295,41 @@ impl<S: AsRef<[u8]>, P> Device<S, P> {
     pub fn list<'a>(&self, group: u32, buffer: &'a mut [u8]) -> Result<Listing<'a>, Refusal> {
         let count = accepted(boundary::list(self.state.as_ref(), group, buffer))?;
         Ok(Listing::new(buffer, count as usize))
+    }
+}
+
+#[cfg(test)]
+mod tests {
+    use super::Numbers;
+
+    /// The lengths computed here are those that the archive's functions answer: at
+    /// all limits, beside them, and for numbers that overflow where one is careless.
+    #[test]
+    fn lengths_are_those_of_the_archive() {
+        let mut devices = 0;
+        for blocks in [0, 1, 2, 3, 4, 9, 129, 4095, 4096, 4097, u32::MAX] {
+            for block_pages in [0, 3, 4, 5, 63, 64, 255, 256, 257, 1 << 31, u32::MAX] {
+                for error_bound in [0, 1, 2, 14, 15, 16, 1 << 31, u32::MAX] {
+                    let most = u64::from(blocks.saturating_sub(1)) * u64::from(block_pages) / 2;
+                    let most = most.min(u64::from(u32::MAX)) as u32;
+                    let beside = [most.saturating_sub(1), most, most.saturating_add(1)];
+                    for logical_pages in [0, 1, 255, 256, 257, u32::MAX].into_iter().chain(beside) {
+                        let numbers = Numbers {
+                            blocks,
+                            block_pages,
+                            logical_pages,
+                            error_bound,
+                        };
+                        let archive = numbers.archive_lens();
+                        let lengths = archive.map_or([None; 2], |lengths| lengths.map(Some));
+                        let computed = [numbers.state_len(), numbers.spare_len()];
+                        assert_eq!(computed, lengths, "{numbers:?}");
+                        assert_eq!(numbers.groups().is_some(), archive.is_some());
+                        devices += usize::from(archive.is_some());
+                    }
+                }
+            }
+        }
+        assert!(devices > 500, "{devices} devices");
     }
 }

@@ -42,12 +42,40 @@
 //! # Ok::<(), hedjosur::Refusal>(())
 //! ```
 //!
+//! `examples/gateway.rs` is a driver in full: a chip, a flush by the plan, a
+//! collection, a read.
+//!
+//! # What a driver has to know
+//!
+//! - **The spare area** is what the chip's out-of-band bytes hold, as the driver
+//!   mirrors it in memory: 2g + 1 numbers for each page. A format, a flush and a
+//!   collection change it; the driver programs a page's numbers together with its
+//!   data, in a byte order of its own choice.
+//! - **After a format** all blocks have to be erased. After that a flush always opens
+//!   a block that is erased already: those that a collection lists are erased by the
+//!   driver once the pages are copied.
+//! - **A flush refused [`NoFreeBlock`](Refusal::NoFreeBlock)** succeeds after one
+//!   [`Device::collect`], always.
+//! - **What it doesn't do:** nothing is kept across a power loss but what the driver
+//!   stores of the two buffers; bad blocks are not known; wear is not levelled, the
+//!   lowest free block is always taken.
+//!
+//! docs/COSTS.md of the repository has what the table costs, in memory, reads, stack
+//! and time.
+//!
 //! The functions are those of the static library that `rt staticlib export`
-//! builds; `include/hedjosur.h` says the same for C.
+//! builds; `include/hedjosur.h` says the same for C. The archive is code for x86-64
+//! Linux and needs `memcpy`, `memmove` and `memset`.
 
 #![no_std]
 #![deny(unsafe_code)]
 #![warn(missing_docs)]
+
+#[cfg(not(all(target_arch = "x86_64", target_os = "linux")))]
+compile_error!(
+    "hedjosur runs on x86-64 Linux alone: libexport.a, the proved code, is compiled for it, \
+     and no other archive is built today"
+);
 
 mod answers;
 #[allow(unsafe_code)]
@@ -58,5 +86,13 @@ mod refusal;
 
 pub use answers::{Collected, Flushed, Lookup};
 pub use device::{Device, Numbers};
-pub use listing::{Listing, Record, LISTING_LEN};
+pub use listing::{Kind, Listing, Record, LISTING_LEN};
 pub use refusal::Refusal;
+
+/// The version of this crate, of the header and of the archive's interface.
+pub const VERSION: &str = env!("CARGO_PKG_VERSION");
+
+/// The example of README.md is a test, too.
+#[cfg(doctest)]
+#[doc = include_str!("../README.md")]
+struct Readme;

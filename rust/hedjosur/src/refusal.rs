@@ -3,7 +3,8 @@
 use core::error::Error;
 use core::fmt::{self, Display, Formatter};
 
-/// Makes the enum, the list of all refusals and their words out of one list.
+/// Makes the enum, the list of its named refusals, their numbers and their words
+/// out of one list.
 macro_rules! refusals {
     (
         $(#[$attribute:meta])*
@@ -13,16 +14,36 @@ macro_rules! refusals {
     ) => {
         $(#[$attribute])*
         pub enum Refusal {
-            $($(#[$doc])* $name = $number,)+
+            $($(#[$doc])* $name,)+
+            /// Another number: the linked archive knows a refusal that this version of
+            /// the wrapper has no name for.
+            Other(u8),
         }
 
         impl Refusal {
-            /// All refusals, by number.
-            pub const ALL: [Refusal; [$($number),+].len()] = [$(Refusal::$name),+];
+            /// The refusals that have names, by number.
+            pub const ALL: &'static [Refusal] = &[$(Refusal::$name),+];
+
+            /// The number of the refusal, from 1 on.
+            pub const fn number(self) -> u32 {
+                match self {
+                    $(Refusal::$name => $number,)+
+                    Refusal::Other(number) => number as u32,
+                }
+            }
+
+            /// The refusal of a number, which is not 0.
+            pub(crate) const fn of_number(number: u8) -> Refusal {
+                match number {
+                    $($number => Refusal::$name,)+
+                    other => Refusal::Other(other),
+                }
+            }
 
             const fn reason(self) -> &'static str {
                 match self {
                     $(Refusal::$name => $reason,)+
+                    Refusal::Other(_) => "a refusal of a newer archive",
                 }
             }
         }
@@ -44,8 +65,21 @@ refusals! {
     ///     "refused 1: the device numbers are missing or outside their limits"
     /// );
     /// ```
+    ///
+    /// Later archives may refuse for other reasons, so a `match` needs a last arm:
+    ///
+    /// ```
+    /// # use hedjosur::Refusal;
+    /// fn a_collection_helps(refusal: Refusal) -> bool {
+    ///     match refusal {
+    ///         Refusal::NoFreeBlock => true,
+    ///         _ => false,
+    ///     }
+    /// }
+    /// assert_eq!(Refusal::ALL.iter().filter(|r| a_collection_helps(**r)).count(), 1);
+    /// ```
     #[derive(Clone, Copy, Debug, PartialEq, Eq, PartialOrd, Ord, Hash)]
-    #[repr(u8)]
+    #[non_exhaustive]
     pub enum Refusal {
         /// 1: the state is too short to hold the device numbers, or one of them is
         /// outside its limits.
@@ -65,13 +99,6 @@ refusals! {
         NotNamed = 7: "the spare area doesn't name the logical page",
         /// 8: a collection would free no block.
         NothingToGain = 8: "a collection would free no block",
-    }
-}
-
-impl Refusal {
-    /// The number of the refusal, from 1 on.
-    pub const fn number(self) -> u32 {
-        self as u32
     }
 }
 

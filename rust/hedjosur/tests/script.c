@@ -50,7 +50,7 @@ static int script(void)
     CHECK(hedjosur_first_page(flush(16, 31)) == 128);
     CHECK(plan[0] == 0 && plan[63] == 63);
     answer = hedjosur_flush(state, 5670, spare, 1728, scattered, 3, plan, 64);
-    CHECK(hedjosur_refusal(answer) == HEDJOSUR_ACCEPTED);
+    CHECK(hedjosur_refusal_of(answer) == HEDJOSUR_ACCEPTED);
     CHECK(hedjosur_first_page(answer) == 192 && hedjosur_count(answer) == 3);
     answer = hedjosur_flush(state, 5670, spare, 1728, others, 3, plan, 64);
     CHECK(hedjosur_first_page(answer) == 256 && hedjosur_count(answer) == 3);
@@ -62,9 +62,9 @@ static int script(void)
     CHECK(hedjosur_found(answer) && hedjosur_reads(answer) == 2);
     CHECK(hedjosur_page(answer) == 194 && hedjosur_predicted(answer) == 193);
     answer = lookup(100);
-    CHECK(hedjosur_refusal(answer) == HEDJOSUR_ACCEPTED);
+    CHECK(hedjosur_refusal_of(answer) == HEDJOSUR_ACCEPTED);
     CHECK(!hedjosur_found(answer) && hedjosur_reads(answer) == 0);
-    CHECK(hedjosur_refusal(lookup(256)) == HEDJOSUR_OUT_OF_RANGE);
+    CHECK(hedjosur_refusal_of(lookup(256)) == HEDJOSUR_OUT_OF_RANGE);
 
     CHECK(hedjosur_first_page(flush(32, 90)) == 320);
     answer = lookup(78);
@@ -74,7 +74,7 @@ static int script(void)
     CHECK(hedjosur_records(answer) == 4);
     CHECK(memcmp(out + 30, last, sizeof last) == 0);
     answer = hedjosur_agree(state, 5670, spare, 1728, state, 5670, spare, 1728);
-    CHECK(hedjosur_refusal(answer) == HEDJOSUR_ACCEPTED && hedjosur_yes(answer));
+    CHECK(hedjosur_refusal_of(answer) == HEDJOSUR_ACCEPTED && hedjosur_yes(answer));
     return 0;
 }
 
@@ -90,9 +90,9 @@ static int smallest_device(void)
         CHECK(hedjosur_first_page(answer) == 4 * block && hedjosur_count(answer) == 1);
     }
     answer = hedjosur_flush(state, 5658, spare, 12, page, 1, plan, 4);
-    CHECK(hedjosur_refusal(answer) == HEDJOSUR_NO_FREE_BLOCK);
+    CHECK(hedjosur_refusal_of(answer) == HEDJOSUR_NO_FREE_BLOCK);
     answer = hedjosur_collect(state, 5658, spare, 12, plan, 4, erased, 3);
-    CHECK(hedjosur_refusal(answer) == HEDJOSUR_ACCEPTED);
+    CHECK(hedjosur_refusal_of(answer) == HEDJOSUR_ACCEPTED);
     CHECK(hedjosur_first_page(answer) == 8 && hedjosur_count(answer) == 1);
     CHECK(hedjosur_erased(answer) == 2 && erased[0] == 0 && erased[1] == 1);
     CHECK(plan[0] == 4);

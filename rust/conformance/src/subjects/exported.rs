@@ -12,10 +12,7 @@ pub struct Exported;
 
 impl Calls for Exported {
     fn lengths(&self, numbers: [u32; 4]) -> Option<[usize; 2]> {
-        let numbers = named(numbers);
-        let lengths = [numbers.state_len(), numbers.spare_len()];
-        assert_eq!(lengths[0].is_some(), lengths[1].is_some());
-        Some([lengths[0]?, lengths[1]?])
+        named(numbers).archive_lens()
     }
 
     fn format(
