@@ -1,2 +1,5 @@
-pub mod CompactSlots
-pub mod Step
+pub mod Levels
+pub mod Order
+pub mod Taking
+pub mod Ordering
+pub mod Passing

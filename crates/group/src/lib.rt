@@ -4,7 +4,7 @@ ghost use mathlib.Core.Path.{_≡_};
 ghost use mathlib.Core.Bool.{true};
 ghost use mathlib.Core.Option.{Option·map};
 ghost use Prim.Native.Nat.{suc, _+_, _-_, _<_, _≤_};
-ghost use lib.ListN.{length, getD};
+ghost use lib.ListN.{length};
 ghost use Rattle.model.specs.Device.{groupLength};
 ghost use Rattle.model.specs.Levels.{listing, recordCount, groupLimit, holder, levelsTo};
 ghost use Rattle.model.specs.Sound.{soundGroup};
@@ -12,8 +12,7 @@ ghost use Rattle.record.specs.Read.{bare};
 ghost use Rattle.record.specs.Coding.{InEight};
 ghost use Rattle.group.specs.Layout.{offsets, usedOf, flagOf, slotOf, slotLevel, slotsOf, entriesOf, ownerOf, levelsAt};
 ghost use Rattle.group.specs.Reading.{encodes, readGroup, SoundBytes};
-ghost use Rattle.group.specs.Held.{slotsFor};
-ghost use Rattle.group.specs.Answers.{foundOf, lookedOf, noSlot};
+ghost use Rattle.group.specs.Answers.{foundOf, lookedOf};
 ghost use Rattle.group.specs.Checking.{approx, offsetsIn, shaped, InLast, freeFrom, slotStands, slotsPass, noOwners, unnamed, without, ownsEnds, taken, leftBy, unowned};
 
 // A group's bytes (docs/LAYOUT.md, 'A group').
@@ -119,14 +118,6 @@ pub fn record_count(b: &[u8]) -> u32
     ensures { λ r. ⌜ r ≡ recordCount (readGroup (now (b .entry))) ⌝ }
 {
     used(b)
-}
-
-// Record i of the group, levels downward, each ascending, with its level.
-pub fn record_at(b: &[u8], i: usize) -> Slot
-    requires { ⌜ (length (now b) ≡ groupLength) × (encodes (now b) ≡ true) × (i < recordCount (readGroup (now b))) ⌝ }
-    ensures { λ r. ⌜ r ≡ getD (slotsFor (readGroup (now (b .entry)))) i noSlot ⌝ }
-{
-    slot_at(b, i)
 }
 
 // Where offset o is found, in a sound group.

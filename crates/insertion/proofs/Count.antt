@@ -2,9 +2,9 @@
 use mathlib.Core.Path.{_≡_, refl, sym, _∙_, ap}
 use mathlib.Core.List.{List, [], _∷_, _++_, flatten}
 use mathlib.Core.Bool.{true≢false, true}
-use Prim.Native.Nat.{ℕ, zero, suc, _+_, _≤_, _<_}
+use Prim.Native.Nat.{ℕ, suc, _+_, _≤_}
 use native.Mathlib.Omega.{arith}
-use lib.ListN.{length, getD, length-append}
+use lib.ListN.{length, length-append}
 use Rattle.model.specs.Lists.{all}
 use Rattle.model.specs.Record.{Record}
 use Rattle.model.specs.Levels.{Level, Group, listing, recordCount}
@@ -12,7 +12,7 @@ use Rattle.model.specs.Sound.{isFilled}
 use Rattle.model.proofs.Bools.{all-head, all-tail}
 use Rattle.group.specs.Cutting.{Placed, flatFrom, flat}
 use Rattle.insertion.specs.Flat.{tag}
-use Rattle.insertion.specs.Slots.{noSlot, records}
+use Rattle.insertion.specs.Slots.{records}
 
 -- each slot holds a record
 pub records-length : (l : List Placed) → length (records l) ≡ length l
@@ -47,19 +47,3 @@ levels-most n ((r ∷ l) ∷ g) h =
 -- A group without empty levels has at most as many as slots.
 pub levels-few : (g : Group) → all isFilled g ≡ true → length g ≤ length (flat g)
 levels-few g h = levels-most 0 g h
-
-level-tag : (n k : ℕ) (l : Level) (q : List Placed) → n < k → ((j : ℕ) → j < length q → getD q j noSlot .level < k)
-    → (i : ℕ) → i < length (tag n l ++ q) → getD (tag n l ++ q) i noSlot .level < k
-level-tag n k [] q h f i m = f i m
-level-tag n k (r ∷ l) q h f zero m = h
-level-tag n k (r ∷ l) q h f (suc i) m = level-tag n k l q h f i (omega arith)
-
-level-from : (n : ℕ) (g : Group) (i : ℕ) → i < length (flatFrom n g) → getD (flatFrom n g) i noSlot .level < n + length g
-unfolding flatFrom
-level-from n [] i m = absurd (omega arith)
-level-from n (l ∷ g) i m =
-    level-tag n (n + suc (length g)) l (flatFrom (suc n) g) (omega arith) (λ (j : ℕ) (q : j < length (flatFrom (suc n) g)). omega (arith, level-from (suc n) g j q)) i m
-
--- Each slot's level is one of the group's.
-pub level-below : (g : Group) (i : ℕ) → i < length (flat g) → getD (flat g) i noSlot .level < length g
-level-below g i m = omega (arith, level-from 0 g i m)

@@ -3,13 +3,13 @@ use mathlib.Core.Path.{_≡_, refl, ap}
 use mathlib.Core.List.{List, [], _∷_, _++_}
 use Prim.Native.Nat.{ℕ, suc, _<_}
 use native.Mathlib.Omega.{arith}
-use lib.ListN.{length, getD, set}
+use lib.ListN.{length, set}
 use Rattle.model.specs.Record.{Record}
 use Rattle.model.specs.Levels.{Level, Group}
 use Rattle.group.specs.Cutting.{Placed, flatFrom, flat}
 use Rattle.insertion.specs.Flat.{tag}
 use Rattle.bytes.specs.Slots.{removeAt}
-use Rattle.insertion.specs.Slots.{slot, noSlot, heldAt}
+use Rattle.insertion.specs.Slots.{slot, heldAt}
 
 -- a level has as many slots as records
 pub tag-length : (n : ℕ) (l : Level) → length (tag n l) ≡ length l
@@ -33,12 +33,6 @@ pub flat-replace : (p : Level) (x : Record) (b : Level) (g : Group) (y : Record)
 unfolding flatFrom
 flat-replace [] x b g y = refl
 flat-replace (r ∷ p) x b g y = ap (λ (m : List Placed). slot 0 r ∷ m) (flat-replace p x b g y)
-
--- its level is 0
-pub flat-level : (p : Level) (x : Record) (b : Level) (g : Group) → getD (flat ((p ++ (x ∷ b)) ∷ g)) (length p) noSlot .level ≡ 0
-unfolding flatFrom
-flat-level [] x b g = refl
-flat-level (r ∷ p) x b g = flat-level p x b g
 
 -- its index is inside
 pub flat-inside : (p : Level) (x : Record) (b : Level) (g : Group) → length p < length (flat ((p ++ (x ∷ b)) ∷ g))

@@ -4,7 +4,7 @@ use mathlib.Core.List.{List, [], _∷_, _++_}
 use Prim.Native.Nat.{ℕ, zero, suc, _+_, _≤_, _<_}
 use native.Mathlib.Omega.{arith}
 use native.Mathlib.Nat.{add-zero, add-suc}
-use lib.ListN.{length, getD, take, set}
+use lib.ListN.{length, getD, set}
 use Rattle.bytes.specs.Slots.{insertAt, removeAt}
 
 module _ {A : Type 0} where
@@ -51,11 +51,6 @@ module _ {A : Type 0} where
   pub getD-behind : (p : List A) (x : A) (q : List A) (d : A) → getD (p ++ (x ∷ q)) (length p) d ≡ x
   getD-behind [] x q d = refl
   getD-behind (y ∷ p) x q d = getD-behind p x q d
-
-  -- the first part
-  pub take-before : (p q : List A) → take (length p) (p ++ q) ≡ p
-  take-before [] q = refl
-  take-before (y ∷ p) q = ap (λ (m : List A). y ∷ m) (take-before p q)
 
   -- one behind a first part makes it one longer
   pub snoc-length : (p : List A) (x : A) → length (p ++ (x ∷ [])) ≡ suc (length p)

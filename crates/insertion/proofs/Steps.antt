@@ -1,8 +1,8 @@
 -- A write on the bytes is a step on the list that they hold: a record replaced, removed, moved; levels numbered anew. Assumes nothing.
 use mathlib.Core.Path.{_≡_, refl, sym, _∙_, ap}
 use mathlib.Core.List.{List, [], _∷_, map}
-use mathlib.Core.Bool.{Bool, true, false}
-use Prim.Native.Nat.{ℕ, zero, suc, _+_, _≤_, _<_}
+use mathlib.Core.Bool.{true}
+use Prim.Native.Nat.{ℕ, suc, _+_, _≤_, _<_}
 use native.Mathlib.Omega.{arith}
 use lib.ListN.{length, getD, set, length-set, length-map, List·getD-map}
 use Rattle.model.specs.Device.{groupLength}
@@ -18,12 +18,11 @@ use Rattle.group.specs.Held.{slotFor}
 use Rattle.group.specs.Answers as answers
 use Rattle.slots.specs.View.{Room, Shows}
 use Rattle.slots.proofs.Maps.{map-set, map-insertAt, map-removeAt}
-use Rattle.insertion.specs.Slots.{slot, noSlot, heldAt, records, zeros, slotIndex, meetsAt, deepenFrom}
-use Rattle.insertion.specs.InsertSlots.{renumber, settle, sinkSlots}
+use Rattle.insertion.specs.Slots.{slot, noSlot, heldAt, records}
+use Rattle.insertion.specs.InsertSlots.{renumber, settle}
 use Rattle.insertion.specs.Shown.{weight, Shown}
 use Rattle.insertion.proofs.Moves.{removeAt-length}
-use Rattle.insertion.proofs.ListWrites.{all-at, all-set, all-remove, all-insert, total-set, total-remove, total-put}
-use Rattle.insertion.proofs.Sink.{sink-length}
+use Rattle.insertion.proofs.ListWrites.{all-at, all-set, all-remove, total-set, total-remove, total-put}
 
 -- the records of a list that lacks or has one
 held-record : (l : List Placed) (i : ℕ) → getD (records l) i (noSlot .item) ≡ heldAt i l
@@ -44,12 +43,6 @@ module _ (m : Record → ℕ) where
   insert-total i s l = ap (total m) (map-insertAt (λ (p : Placed). p .item) i s l) ∙ total-put m i (s .item) (records l)
 
 -- a level's number is no part of its records
-deepen-records : (i : ℕ) (l : List Placed) → records (deepenFrom i l) ≡ records l
-unfolding deepenFrom
-deepen-records i [] = refl
-deepen-records zero (s ∷ l) = ap (λ (k : List Record). s .item ∷ k) (deepen-records zero l)
-deepen-records (suc i) (s ∷ l) = ap (λ (k : List Record). s .item ∷ k) (deepen-records i l)
-
 settle-records : (o n : ℕ) (l : List Placed) → records (settle o n l) ≡ records l
 unfolding settle
 settle-records o n [] = refl
@@ -59,15 +52,6 @@ settle-length : (o n : ℕ) (l : List Placed) → length (settle o n l) ≡ leng
 unfolding settle
 settle-length o n [] = refl
 settle-length o n (s ∷ l) = ap suc (settle-length (s .level) (renumber o n (s .level)) l)
-
--- a record that sinks is put in somewhere
-sink-put : {A : Type 0} (f : List Record → A) (y : A) (s : Record) (l : List Placed) → ((i : ℕ) → f (insertAt i s (records l)) ≡ y) → f (records (sinkSlots s l)) ≡ y
-unfolding sinkSlots
-sink-put f y s l h = go (meetsAt 1 s l) refl
-  where
-    go : (t : Bool) → meetsAt 1 s l ≡ t → f (records (sinkSlots s l)) ≡ y
-    go true e = rw (e, sinkSlots) (ap f (map-insertAt (λ (p : Placed). p .item) (zeros l) (slot 1 s) (deepenFrom (zeros l) l) ∙ ap (insertAt (zeros l) s) (deepen-records (zeros l) l)) ∙ h (zeros l))
-    go false e = rw (e, sinkSlots) (ap f (map-insertAt (λ (p : Placed). p .item) (slotIndex 1 s l) (slot 1 s) l) ∙ h (slotIndex 1 s l))
 
 module _ (b : List ℕ) (l : List Placed) (shown : Shown b l) where
   pub shown-length : length (slotsOf b) ≡ length l
@@ -109,19 +93,6 @@ module _ (b : List ℕ) (l : List Placed) (shown : Shown b l) where
       sound = ap (all (soundRecord 256 0)) (map-removeAt (λ (p : Placed). p .item) i l) ∙ all-remove (soundRecord 256 0) i (records l) (shown .sound);
       once = λ o. omega (arith, shown .once o, remove-total (owns o) i l h);
     }
-
-    -- A record that sinks.
-    pub shown-sink : Shows t (map slotFor (sinkSlots (heldAt i l) (removeAt i l))) (ownerOf b) → Shown t (sinkSlots (heldAt i l) (removeAt i l))
-    shown-sink after =
-        let sum : (m : Record → ℕ) → total m (records (sinkSlots (heldAt i l) (removeAt i l))) ≡ m (heldAt i l) + total m (records (removeAt i l)) = λ m. sink-put (total m) (m (heldAt i l) + total m (records (removeAt i l))) (heldAt i l) (removeAt i l) (λ j. total-put m j (heldAt i l) (records (removeAt i l))) in
-        record {
-          size = size;
-          slots = after .1;
-          owners = λ o k. omega (arith, after .2 o k, shown .owners o k, remove-total (weight o) i l h, sum (weight o));
-          room = omega (arith, sink-length (heldAt i l) (removeAt i l), removeAt-length i l h, shown .room);
-          sound = sink-put (all (soundRecord 256 0)) true (heldAt i l) (removeAt i l) (λ j. all-insert (soundRecord 256 0) j (heldAt i l) (records (removeAt i l)) (sound-held i h) (ap (all (soundRecord 256 0)) (map-removeAt (λ (p : Placed). p .item) i l) ∙ all-remove (soundRecord 256 0) i (records l) (shown .sound)));
-          once = λ o. omega (arith, shown .once o, remove-total (owns o) i l h, sum (owns o));
-        }
 
   -- Levels numbered anew.
   pub shown-settle : (t : List ℕ) → Shows t (map slotFor (settle 0 0 l)) (ownerOf b) → Shown t (settle 0 0 l)

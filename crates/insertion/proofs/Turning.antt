@@ -1,122 +1,214 @@
--- The slots of level 0 meet their fates one after the other: what the bytes hold in between. Assumes nothing.
+-- A slot of level 0 meets its fate: one law for each way that the turn goes. Assumes nothing.
 use mathlib.Core.Path.{_≡_, refl, sym, _∙_, ap, subst}
-use mathlib.Core.List.{List, [], _∷_, _++_, map, append-nil, append-assoc}
-use mathlib.Core.Bool.{true≢false, true}
-use Prim.Native.Nat.{ℕ, suc, _+_, _-_, _<_, _≤_}
+use mathlib.Core.List.{List, [], _∷_, _++_}
+use mathlib.Core.Option.{Option, none, some, Option·map}
+use mathlib.Core.Bool.{Bool, true, false}
+use Prim.Native.Nat.{ℕ, suc, _+_, _≤_, _<_}
 use native.Mathlib.Omega.{arith}
-use lib.ListN.{length, getD, length-append}
-use borrow.Author.Tests.{lt-ltb}
-use Rattle.model.specs.Lists.{all}
+use lib.ListN.{length, getD, set}
+use Rattle.model.specs.Lists.{all, elem}
 use Rattle.model.specs.Record as model
-use Rattle.model.specs.Levels.{Level, Group, fate, stayers, sinkers, sinkAll}
-use Rattle.model.specs.Sound.{isFilled}
-use Rattle.model.proofs.Bools.{all-head, all-tail, all-cons}
-use Rattle.model.proofs.SoundGroup.{sinkAll-filled}
+use Rattle.model.specs.Record.{member}
+use Rattle.model.specs.Levels.{Level, Group, meets, shrink, Fate, stays, sinks, goes, fate, staying, sinking, sink, sinkAll}
+use Rattle.model.specs.Sound.{soundRecord}
+use Rattle.model.specs.Totals.{total, owns}
+use Rattle.model.proofs.Total.{indicator-le}
+use Rattle.model.proofs.SoundRecord.{record-parts, shrunk-owned, shrunk-sound}
+use Rattle.bytes.specs.Slots.{removeAt}
+use Rattle.record.specs.declared.Record.{Record}
+use Rattle.record.specs.declared.Left.{Left}
+use Rattle.record.specs.declared.Left.the-variants.{Kept, Gone}
+use Rattle.record.specs.Read.{asRecord, bare, leftOf}
+use Rattle.record.specs.Scan.{masked}
+use Rattle.record.specs.Coding.{InEight}
 use Rattle.group.specs.declared.Slot.{Slot}
-use Rattle.group.specs.Layout.{slotsOf}
-use Rattle.group.specs.Cutting.{Placed, flatFrom, flat}
-use Rattle.group.specs.Held.{slotFor}
+use Rattle.group.specs.Layout.{slotsOf, ownerOf}
+use Rattle.group.specs.Cutting.{Placed, flat}
+use Rattle.group.specs.Held.{slotsFor}
 use Rattle.group.specs.Answers as answers
-use Rattle.slots.specs.Edits.{canGoDown}
-use Rattle.insertion.specs.Flat.{tag}
-use Rattle.insertion.specs.Slots.{slot, noSlot, heldAt, slotIndex}
-use Rattle.insertion.specs.InsertSlots.{turn, turnNext}
-use Rattle.insertion.specs.Shown.{Shown, Tidy}
-use Rattle.insertion.proofs.FlatParts.{flat-held, flat-level, flat-inside}
-use Rattle.insertion.proofs.Sink.{zeros-flat}
-use Rattle.insertion.proofs.Sinking.{zeros-of}
-use Rattle.insertion.proofs.Steps.{shown-length, shown-slot}
-use Rattle.insertion.proofs.Turns.{turn-step, turn-next}
+use Rattle.slots.specs.View.{Room, Shows, OwnsInRange, LeftOf}
+use Rattle.slots.proofs.Maps.{map-removeAt}
+use Rattle.insertion.specs.declared.Outcome.{Outcome}
+use Rattle.insertion.specs.declared.Outcome.the-variants.{Taken}
+use Rattle.insertion.specs.Slots.{slot, noSlot, heldAt, records, keepAt}
+use Rattle.insertion.specs.Shown.{weight, Shown}
+use Rattle.insertion.specs.Ready.{Masks}
+use Rattle.insertion.specs.Turns.{Laid, Facing, side, outcome}
+use Rattle.insertion.proofs.Moves.{insertAt-length, removeAt-length}
+use Rattle.insertion.proofs.ListWrites.{all-remove, all-insert, total-put}
+use Rattle.insertion.proofs.FlatParts.{flat-held, flat-inside, flat-remove, flat-replace}
+use Rattle.insertion.proofs.Count.{records-length}
+use Rattle.insertion.proofs.Shrink.{shrink-same}
+use Rattle.insertion.proofs.Steps.{remove-total, shown-length, shown-room, shown-slot, sound-held}
+use Rattle.insertion.proofs.Remaining.{weightLeft, held-in-range, held-left, held-eight, held-owners, kept-shown, gone-shown}
+use Rattle.insertion.proofs.Lowering.{sunk-among}
+use Rattle.insertion.proofs.Becoming.{fate-beside, fate-gone, fate-left, fate-lower}
 
-low-slot : (n : ℕ) (r : model.Record) → n < 65535 → canGoDown (slotFor (slot n r)) ≡ true
-unfolding canGoDown
-low-slot n r h = lt-ltb n 65535 h
+module _ (b : List ℕ) (i z : ℕ) (q : Facing b i z) where
+  abbrev before : Level
+  before = q .laid .before
 
-low-tag : (n : ℕ) (l : Level) (q : List Placed) → n < 65535 → all canGoDown (map slotFor q) ≡ true → all canGoDown (map slotFor (tag n l ++ q)) ≡ true
-low-tag n [] q h a = a
-low-tag n (r ∷ l) q h a = all-cons canGoDown (slotFor (slot n r)) (map slotFor (tag n l ++ q)) (low-slot n r h) (low-tag n l q h a)
+  abbrev item : model.Record
+  item = q .laid .item
 
-low-from : (n : ℕ) (g : Group) → all isFilled g ≡ true → n + length (flatFrom n g) ≤ 65535 → all canGoDown (map slotFor (flatFrom n g)) ≡ true
-unfolding flatFrom isFilled all
-low-from n [] f h = refl
-low-from n ([] ∷ g) f h = absurd (true≢false (sym (all-head isFilled [] g f)))
-low-from n ((r ∷ l) ∷ g) f h =
-    let k = length-append (tag n l) (flatFrom (suc n) g) in
-    low-tag n (r ∷ l) (flatFrom (suc n) g) (omega arith) (low-from (suc n) g (all-tail isFilled (r ∷ l) g f) (omega (arith, k)))
+  abbrev behind : Level
+  behind = q .laid .behind
 
--- levels without gaps below a first one can all go down
-group-low : (t : List ℕ) (l : Level) (g : Group) → Shown t (flat (l ∷ g)) → all isFilled g ≡ true → all canGoDown (slotsOf t) ≡ true
-unfolding flatFrom
-group-low t l g shown f =
-    let k = length-append (tag 0 l) (flatFrom 1 g) in
-    let r : length (tag 0 l ++ flatFrom 1 g) ≤ 512 = shown .room in
-    ap (all canGoDown) (shown .slots) ∙ low-tag 0 l (flatFrom 1 g) (omega arith) (low-from 1 g f (omega (arith, k, r)))
+  abbrev below : Group
+  below = q .laid .below
 
--- k records of level 0 have their turn still, the first of them in slot i
-pub record Turning (r : model.Record) (top : Level) (rest : Group) (t : List ℕ) (k i : ℕ) : Type 0 where
-  pub done : Level
-  pub left : Level
-  pub parts : top ≡ done ++ left
-  pub shown : Shown t (flat ((stayers r done ++ left) ∷ sinkAll (sinkers r done) rest))
-  pub count : k ≡ length left
-  pub index : i ≡ length (stayers r done)
+  abbrev l : List Placed
+  l = flat ((before ++ (item ∷ behind)) ∷ below)
 
-module _ (r : model.Record) (top : Level) (rest : Group) where
-  pub turning-start : (t : List ℕ) (k : ℕ) → Shown t (flat (top ∷ rest)) → ((l : List Placed) (x : model.Record) → slotsOf t ≡ map slotFor l → 255 ≡ x .start → k ≡ slotIndex 0 x l)
-      → Turning r top rest t k 0
-  unfolding stayers sinkers sinkAll
-  turning-start t k shown at = record { done = []; left = top; parts = refl; shown = shown; count = zeros-of t k at (flat (top ∷ rest)) shown ∙ zeros-flat top rest; index = refl }
+  shown : Shown b l
+  shown = q .shown
 
-  -- what a turn asks
-  pub turning-ready : (t : List ℕ) (k i : ℕ) → 0 < k → all isFilled rest ≡ true → Turning r top rest t k i
-      → Tidy t × (i < length (slotsOf t)) × (getD (slotsOf t) i answers.noSlot .level ≡ 0) × (all canGoDown (slotsOf t) ≡ true)
-  turning-ready t k i h f g = go (g .left) (g .shown) (g .count)
-    where
-      go : (b : Level) → Shown t (flat ((stayers r (g .done) ++ b) ∷ sinkAll (sinkers r (g .done)) rest)) → k ≡ length b
-          → Tidy t × (i < length (slotsOf t)) × (getD (slotsOf t) i answers.noSlot .level ≡ 0) × (all canGoDown (slotsOf t) ≡ true)
-      go [] shown count = absurd (omega arith)
-      go (v ∷ b) shown count =
-          let inside = flat-inside (stayers r (g .done)) v b (sinkAll (sinkers r (g .done)) rest) in
-          let level = flat-level (stayers r (g .done)) v b (sinkAll (sinkers r (g .done)) rest) in
-          let n = shown-length t (flat ((stayers r (g .done) ++ (v ∷ b)) ∷ sinkAll (sinkers r (g .done)) rest)) shown in
-          let at : getD (slotsOf t) i answers.noSlot .level ≡ 0 =
-          ap (λ (j : ℕ). getD (slotsOf t) j answers.noSlot .level) (g .index) ∙ ap (λ (y : Slot). y .level) (shown-slot t (flat ((stayers r (g .done) ++ (v ∷ b)) ∷ sinkAll (sinkers r (g .done)) rest)) shown (length (stayers r (g .done)))) ∙ level in (
-            record { list = flat ((stayers r (g .done) ++ (v ∷ b)) ∷ sinkAll (sinkers r (g .done)) rest); shown = shown },
-            omega (arith, inside, n, g .index),
-            at,
-            group-low t (stayers r (g .done) ++ (v ∷ b)) (sinkAll (sinkers r (g .done)) rest) shown (sinkAll-filled (sinkers r (g .done)) rest f),
+  inside : i < length l
+  inside = omega (arith, q .laid .index, flat-inside before item behind below)
+
+  pub facing-room : Room b × (i < length (slotsOf b))
+  facing-room = (shown-room b l shown, omega (arith, inside, shown-length b l shown))
+
+  held : heldAt i l ≡ item
+  held = ap (λ (n : ℕ). heldAt n l) (q .laid .index) ∙ flat-held before item behind below
+
+  removed : removeAt i l ≡ flat ((before ++ behind) ∷ below)
+  removed = ap (λ (n : ℕ). removeAt n l) (q .laid .index) ∙ flat-remove before item behind below
+
+  module _ (s : Slot) (is : s ≡ getD (slotsOf b) i answers.noSlot) where
+    numbers : s .held ≡ bare (heldAt i l)
+    numbers = ap (λ (y : Slot). y .held) (is ∙ shown-slot b l shown i)
+
+    -- what `left_of` asks
+    pub facing-short : s .held .start + s .held .span ≤ 255
+    facing-short =
+        let p = record-parts 256 0 (heldAt i l) (sound-held b l shown i inside) .byte in
+        omega (arith, ap (λ (y : Record). y .start) numbers, ap (λ (y : Record). y .span) numbers)
+
+    pub facing-range : OwnsInRange (ownerOf b) (s .held)
+    facing-range = rw numbers (held-in-range b l shown i inside)
+
+    module _ (c m : List ℕ) (x : Left) (left : LeftOf b c m (s .held) x) where
+      left-bare : LeftOf b c m (bare (heldAt i l)) x
+      left-bare = subst (λ (y : Record). LeftOf b c m y x) numbers left
+
+      -- what the writes behind it ask
+      pub facing-laid : Laid c i z
+      facing-laid = record {
+        before = before;
+        item = item;
+        behind = behind;
+        below = below;
+        size = left .room .0;
+        slots = left .slots ∙ q .laid .slots;
+        room = left .room .1;
+        index = q .laid .index;
+        count = q .laid .count;
+        filled = q .laid .filled;
+        inOrder = q .laid .inOrder;
+      }
+
+      pub facing-inside : i < length (slotsOf c)
+      facing-inside = omega (arith, facing-room .1, ap (λ (k : List Slot). length k) (left .slots))
+
+      pub facing-eight : (u : Record) → x ≡ Kept u → InEight u
+      facing-eight u g = held-eight b l shown i inside c m x left-bare u g
+
+    module _ (r : Record) (L : List ℕ) (m : List ℕ) (masks : Masks m (asRecord r L)) (t : Bool) (meet : (K M : List ℕ) → t ≡ meets (asRecord (s .held) K) (asRecord r M)) where
+      abbrev R : model.Record
+      R = asRecord r L
+
+      -- the bytes and the outcome, by the record's fate
+      abbrev Comes : List ℕ → Outcome → Fate → Type 0
+      Comes c x f = Shown c (flat ((before ++ staying f behind) ∷ sinkAll (sinking f []) below)) × (x ≡ outcome R f)
+
+      fated : (c : List ℕ) (x : Outcome) (f : Fate) → fate R (heldAt i l) ≡ f → Comes c x f → Comes c x (fate R item)
+      fated c x f e = subst (Comes c x) (sym e ∙ ap (fate R) held)
+
+      meets-is : meets (heldAt i l) R ≡ t
+      meets-is = sym (meet (heldAt i l .owned) L ∙ ap (λ (y : Record). meets (asRecord y (heldAt i l .owned)) R) numbers)
+
+      -- it lies beside r, and stays
+      pub turn-beside : t ≡ false → (x : Outcome) → ((K M : List ℕ) → x ≡ side (asRecord r M) (asRecord (s .held) K)) → Comes b x (fate R item)
+      unfolding staying sinking sinkAll outcome
+      turn-beside e x on =
+          fated b x (stays (heldAt i l)) (fate-beside R (heldAt i l) (meets-is ∙ e)) (
+            subst (λ (v : model.Record). Shown b (flat ((before ++ (v ∷ behind)) ∷ below))) (sym held) shown,
+            on (heldAt i l .owned) L ∙ ap (λ (y : Record). side R (asRecord y (heldAt i l .owned))) numbers,
           )
 
-  pub turning-turn : (t u : List ℕ) (k i j : ℕ) → 0 < k → Turning r top rest t k i
-      → ((l : List Placed) → Shown t l → Shown u (turn (fate r (heldAt i l)) i l) × (j ≡ turnNext (fate r (heldAt i l)) i))
-      → Turning r top rest u (k - 1) j
-  turning-turn t u k i j h g step = go (g .left) (g .parts) (g .shown) (g .count)
-    where
-      go : (b : Level) → top ≡ g .done ++ b → Shown t (flat ((stayers r (g .done) ++ b) ∷ sinkAll (sinkers r (g .done)) rest)) → k ≡ length b → Turning r top rest u (k - 1) j
-      go [] parts shown count = absurd (omega arith)
-      go (v ∷ b) parts shown count =
-          let a = step (flat ((stayers r (g .done) ++ (v ∷ b)) ∷ sinkAll (sinkers r (g .done)) rest)) shown in
-          let held : heldAt i (flat ((stayers r (g .done) ++ (v ∷ b)) ∷ sinkAll (sinkers r (g .done)) rest)) ≡ v =
-          ap (λ (n : ℕ). heldAt n (flat ((stayers r (g .done) ++ (v ∷ b)) ∷ sinkAll (sinkers r (g .done)) rest))) (g .index) ∙ flat-held (stayers r (g .done)) v b (sinkAll (sinkers r (g .done)) rest) in
-          let e : turn (fate r (heldAt i (flat ((stayers r (g .done) ++ (v ∷ b)) ∷ sinkAll (sinkers r (g .done)) rest)))) i (flat ((stayers r (g .done) ++ (v ∷ b)) ∷ sinkAll (sinkers r (g .done)) rest))
-          ≡ flat ((stayers r (g .done ++ (v ∷ [])) ++ b) ∷ sinkAll (sinkers r (g .done ++ (v ∷ []))) rest) =
-          ap (λ (x : model.Record). turn (fate r x) i (flat ((stayers r (g .done) ++ (v ∷ b)) ∷ sinkAll (sinkers r (g .done)) rest))) held
-          ∙ ap (λ (n : ℕ). turn (fate r v) n (flat ((stayers r (g .done) ++ (v ∷ b)) ∷ sinkAll (sinkers r (g .done)) rest))) (g .index)
-          ∙ turn-step r (g .done) v b rest in
-          record {
-            done = g .done ++ (v ∷ []);
-            left = b;
-            parts = parts ∙ sym (append-assoc (g .done) (v ∷ []) b);
-            shown = subst (Shown u) e (a .0);
-            count = omega arith;
-            index = a .1 ∙ ap (λ (x : model.Record). turnNext (fate r x) i) held ∙ ap (turnNext (fate r v)) (g .index) ∙ turn-next r (g .done) v;
-          }
+      module _ (meeting : t ≡ true) (c : List ℕ) (x : Left) (left : LeftOf b c m (s .held) x) where
+        shrinks : (y : Option model.Record) → shrink (masked m) (heldAt i l) ≡ y → shrink (member R) (heldAt i l) ≡ y
+        shrinks y e = sym (shrink-same (masked m) (member R) (heldAt i l) masks) ∙ e
 
-  pub turning-end : (t : List ℕ) (k i : ℕ) → k ≤ 0 → Turning r top rest t k i → Shown t (flat (stayers r top ∷ sinkAll (sinkers r top) rest))
-  turning-end t k i h g = go (g .left) (g .parts) (g .shown) (g .count)
-    where
-      go : (b : Level) → top ≡ g .done ++ b → Shown t (flat ((stayers r (g .done) ++ b) ∷ sinkAll (sinkers r (g .done)) rest)) → k ≡ length b → Shown t (flat (stayers r top ∷ sinkAll (sinkers r top) rest))
-      go [] parts shown count =
-          let e : top ≡ g .done = parts ∙ append-nil (g .done) in
-          subst (λ (p : Level). Shown t (flat (stayers r p ∷ sinkAll (sinkers r p) rest))) (sym e) (subst (λ (p : Level). Shown t (flat (p ∷ sinkAll (sinkers r (g .done)) rest))) (append-nil (stayers r (g .done))) shown)
-      go (v ∷ b) parts shown count = absurd (omega arith)
+        -- nothing is left of it
+        pub turn-gone : x ≡ Gone → (d : List ℕ) → Shows d (removeAt i (slotsOf c)) (ownerOf c) → Comes d Taken (fate R item)
+        unfolding staying sinking sinkAll outcome keepAt leftOf
+        turn-gone g d put = go (shrink (masked m) (heldAt i l)) refl (ap leftOf (sym g) ∙ held-left b l shown i inside c m x (left-bare c m x left)) (gone-shown b l shown i inside c m x (left-bare c m x left) 0 d g put)
+          where
+            go : (y : Option model.Record) → shrink (masked m) (heldAt i l) ≡ y → none ≡ Option·map bare y → Shown d (keepAt i 0 y l) → Comes d Taken (fate R item)
+            go none e p after = fated d Taken goes (fate-gone R (heldAt i l) (meets-is ∙ meeting) (shrinks none e)) (subst (Shown d) removed after, refl)
+            go (some w) e p after = let z : _≡_ {A = ℕ} 0 1 = cc in absurd (omega arith)
+
+        module _ (u : Record) (g : x ≡ Kept u) (t2 : Bool) (meet2 : (K M : List ℕ) → t2 ≡ meets (asRecord u K) (asRecord r M)) where
+          -- what is left of it, as a record
+          record Remains : Type 0 where
+            rest : model.Record
+            is-left : shrink (masked m) (heldAt i l) ≡ some rest
+            bare-rest : u ≡ bare rest
+
+          remains : Remains
+          unfolding leftOf
+          remains = go (shrink (masked m) (heldAt i l)) refl (ap leftOf (sym g) ∙ held-left b l shown i inside c m x (left-bare c m x left))
+            where
+              go : (y : Option model.Record) → shrink (masked m) (heldAt i l) ≡ y → some u ≡ Option·map bare y → Remains
+              go none e p = let z : _≡_ {A = ℕ} 0 1 = cc in absurd (omega arith)
+              go (some w) e p = record { rest = w; is-left = e; bare-rest = cc }
+
+          abbrev w : model.Record
+          w = remains .rest
+
+          meets2 : meets w R ≡ t2
+          meets2 = sym (meet2 (w .owned) L ∙ ap (λ (y : Record). meets (asRecord y (w .owned)) R) (remains .bare-rest))
+
+          -- what is left of it lies beside r, and stays
+          pub turn-left : t2 ≡ false → (d : List ℕ) → Shows d (set (slotsOf c) i (record { level = 0; held = u })) (ownerOf c)
+              → (o : Outcome) → ((K M : List ℕ) → o ≡ side (asRecord r M) (asRecord u K)) → Comes d o (fate R item)
+          unfolding staying sinking sinkAll outcome keepAt
+          turn-left e d put o on =
+              let after : Shown d (keepAt i 0 (some w) l) = subst (λ (y : Option model.Record). Shown d (keepAt i 0 y l)) (remains .is-left) (kept-shown b l shown i inside c m x (left-bare c m x left) u 0 d g put) in
+              let placed : set l i (slot 0 w) ≡ flat ((before ++ (w ∷ behind)) ∷ below) = ap (λ (n : ℕ). set l n (slot 0 w)) (q .laid .index) ∙ flat-replace before item behind below w in
+              fated d o (stays w) (fate-left R (heldAt i l) w (meets-is ∙ meeting) (shrinks (some w) (remains .is-left)) (meets2 ∙ e)) (
+                subst (Shown d) placed after,
+                on (w .owned) L ∙ ap (λ (y : Record). side R (asRecord y (w .owned))) (remains .bare-rest),
+              )
+
+          -- it still meets r, and sinks
+          pub turn-sinks : t2 ≡ true → (d : List ℕ) → ((p : Laid c i z) (K : List ℕ) → Shows d (slotsFor ((p .before ++ p .behind) ∷ sink (asRecord u K) (p .below))) (ownerOf c))
+              → Comes d Taken (fate R item)
+          unfolding staying sinking sinkAll outcome facing-laid weightLeft owns
+          turn-sinks e d lowers =
+              let after = lowers (facing-laid c m x left) (w .owned) in
+              let left-over : Level = before ++ behind in
+              let out : List Placed = flat (left-over ∷ below) in
+              let order = q .laid .inOrder in
+              let sound-w : soundRecord 256 0 w ≡ true = shrunk-sound 256 0 (masked m) (heldAt i l) w (sound-held b l shown i inside) (remains .is-left) in
+              let sum : (f : model.Record → ℕ) → total f (records (flat (left-over ∷ sink w below))) ≡ f w + total f (records (removeAt i l)) = λ f.
+              sunk-among w left-over (total f) (f w + total f (records out)) below order (λ j. total-put f j w (records out)) ∙ ap (λ (k : List Placed). f w + total f (records k)) (sym removed) in
+              let count : length (records (flat (left-over ∷ sink w below))) ≡ suc (length (records out)) = sunk-among w left-over (λ (k : List model.Record). length k) (suc (length (records out))) below order (λ j. insertAt-length j w (records out)) in
+              let rest-sound : all (soundRecord 256 0) (records out) ≡ true = ap (λ (k : List Placed). all (soundRecord 256 0) (records k)) (sym removed) ∙ ap (all (soundRecord 256 0)) (map-removeAt (λ (p : Placed). p .item) i l) ∙ all-remove (soundRecord 256 0) i (records l) (shown .sound) in
+              let owned : (o : ℕ) → o < 256 → ownerOf c o ≡ weight o w + total (weight o) (records (removeAt i l)) = λ o k. held-owners b l shown i inside c m x (left-bare c m x left) o k ∙ ap (λ (y : Option model.Record). weightLeft o y + total (weight o) (records (removeAt i l))) (remains .is-left) in
+              fated d Taken (sinks w) (fate-lower R (heldAt i l) w (meets-is ∙ meeting) (shrinks (some w) (remains .is-left)) (meets2 ∙ e)) (
+                record {
+                  size = after .0;
+                  slots = after .1 ∙ ap (λ (y : Record). slotsFor (left-over ∷ sink (asRecord y (w .owned)) below)) (remains .bare-rest);
+                  owners = λ o k. after .2 o k ∙ owned o k ∙ sym (sum (weight o));
+                  room = omega (arith, count, records-length (flat (left-over ∷ sink w below)), records-length out, ap (λ (k : List Placed). length k) removed, removeAt-length i l inside, shown .room);
+                  sound = sunk-among w left-over (all (soundRecord 256 0)) true below order (λ j. all-insert (soundRecord 256 0) j w (records out) sound-w rest-sound);
+                  once = λ o. omega (arith, sum (owns o), remove-total (owns o) i l inside, shown .once o, less o);
+                },
+                refl,
+              )
+            where
+              less : (o : ℕ) → owns o w ≤ owns o (heldAt i l)
+              less o = indicator-le (elem o (w .owned)) (elem o (heldAt i l .owned)) (λ k. shrunk-owned (masked m) (heldAt i l) w (remains .is-left) o k .0)

@@ -1,7 +1,7 @@
 -- An offset's owner as the sum of what each record adds: who owns it is told by the sum, and what a change of one record does to it. Assumes nothing.
 use mathlib.Core.Path.{_≡_, refl, sym, _∙_, ap}
 use mathlib.Core.List.{List, [], _∷_}
-use mathlib.Core.Bool.{true≢false, Bool, true, false, not, _&&_}
+use mathlib.Core.Bool.{true≢false, Bool, true, false, _&&_}
 use Prim.Native.Nat.{ℕ, suc, _+_, _≤_}
 use native.Mathlib.Omega.{arith}
 use lib.Dec.{eqb, leb}
@@ -14,7 +14,7 @@ use Rattle.model.proofs.Bools.{and-l, and-r, all-head, all-tail}
 use Rattle.model.proofs.Lists.{elem-here}
 use Rattle.model.proofs.SoundRecord.{record-parts, sound-owner}
 use Rattle.group.specs.Held.{ownerAmong}
-use Rattle.slots.specs.Owners.{either, disowned, handedOver, takenBy, leftTo}
+use Rattle.slots.specs.Owners.{either, takenBy}
 use Rattle.insertion.specs.Shown.{weight}
 
 -- Whether r owns o, with what it adds.
@@ -101,31 +101,6 @@ module _ (v : Record) (l : List Record) (sound : soundRecord 256 0 v ≡ true) (
           let differ : weight o v + total (weight o) l ≡ suc (v .start) → ⊥ = λ e. unnamed o (v .start) l others (omega (arith, once o)) (omega (arith, once (v .start))) (omega arith) in
           ne-eqb _ _ differ ∙ sym i
 
-  pub left-owned : (o : ℕ) (taken : Bool) → leftTo (v .start) taken (weight o v + total (weight o) l) ≡ (elem o (v .owned) && not taken)
-  unfolding leftTo
-  left-owned o taken = ap (λ (t : Bool). t && not taken) (names-owned o)
-
-  -- what it owned goes to what is left of it
-  pub handed-left : (o : ℕ) (u : Record) → (elem o (u .owned) ≡ true → elem o (v .owned) ≡ true)
-      → handedOver (v .start) (elem o (u .owned)) (u .start) (weight o v + total (weight o) l) ≡ weight o u + total (weight o) l
-  unfolding handedOver either
-  handed-left o u sub = ap (λ (t : Bool). either t (either (elem o (u .owned)) (suc (u .start)) 0) (weight o v + total (weight o) l)) (names-owned o) ∙ go (weighs o v) (weighs o u)
-    where
-      go : Weighs o v → Weighs o u → either (elem o (v .owned)) (either (elem o (u .owned)) (suc (u .start)) 0) (weight o v + total (weight o) l) ≡ weight o u + total (weight o) l
-      go (yes i w n) (yes j x k) = let z = unowned o l (omega (arith, once o)) in rw (i, j, either) (omega arith)
-      go (yes i w n) (no j x k) = let z = unowned o l (omega (arith, once o)) in rw (i, j, either) (omega arith)
-      go (no i w n) (yes j x k) = absurd (true≢false (sym (sub j) ∙ i))
-      go (no i w n) (no j x k) = rw (i, either) (omega arith)
-
-  -- what it owned goes to nobody
-  pub disowned-left : (o : ℕ) → disowned (v .start) (weight o v + total (weight o) l) ≡ total (weight o) l
-  unfolding disowned either
-  disowned-left o = ap (λ (t : Bool). either t 0 (weight o v + total (weight o) l)) (names-owned o) ∙ go (weighs o v)
-    where
-      go : Weighs o v → either (elem o (v .owned)) 0 (weight o v + total (weight o) l) ≡ total (weight o) l
-      go (yes i w n) = let z = unowned o l (omega (arith, once o)) in rw (i, either) (omega arith)
-      go (no i w n) = rw (i, either) (omega arith)
-
 -- a record that owns offsets nobody owned
 pub owned-more : (o : ℕ) (v : Record) (l : List Record) → owns o v + total (owns o) l ≤ 1 → takenBy (v .start) (elem o (v .owned)) (total (weight o) l) ≡ weight o v + total (weight o) l
 unfolding takenBy either
@@ -134,3 +109,11 @@ owned-more o v l h = go (weighs o v)
     go : Weighs o v → either (elem o (v .owned)) (suc (v .start)) (total (weight o) l) ≡ weight o v + total (weight o) l
     go (yes i w n) = let z = unowned o l (omega arith) in rw (i, either) (omega arith)
     go (no i w n) = rw (i, either) (omega arith)
+
+-- only an approximate record adds to an owner
+pub weightless : (o : ℕ) (v : Record) → soundRecord 256 0 v ≡ true → isApproximate (kind v) ≡ false → weight o v ≡ 0
+weightless o v s a = go (weighs o v)
+  where
+    go : Weighs o v → weight o v ≡ 0
+    go (yes e w n) = absurd (true≢false (sym (sound-owner 256 0 v o s e) ∙ a))
+    go (no e w n) = w

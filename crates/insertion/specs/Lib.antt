@@ -3,3 +3,4 @@ pub mod Slots
 pub mod InsertSlots
 pub mod Shown
 pub mod Ready
+pub mod Turns

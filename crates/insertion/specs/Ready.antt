@@ -9,7 +9,7 @@ use Rattle.model.specs.Lists.{all}
 use Rattle.model.specs.Record as model
 use Rattle.model.specs.Record.{member}
 use Rattle.model.specs.Levels.{Level, Group, recordCount}
-use Rattle.model.specs.Sound.{soundRecord, soundGroup, isFilled}
+use Rattle.model.specs.Sound.{soundRecord, soundGroup, isFilled, ordered}
 use Rattle.record.specs.declared.Record.{Record}
 use Rattle.record.specs.Read.{asRecord}
 use Rattle.record.specs.Scan.{masked}
@@ -21,13 +21,14 @@ use Rattle.insertion.specs.Shown.{Shown}
 abbrev pub Masks : List ℕ → model.Record → Type 0
 Masks m r = (o : ℕ) → o < 256 → masked m o ≡ member r o
 
--- level 0, which may be empty, stands before levels that are not, and the mask has the members of r
+-- level 0, which may be empty, stands before levels that are not, all in order, and the mask has the members of r
 pub record Parted (b m : List ℕ) (r : Record) : Type 0 where
   pub top : Level
   pub rest : Group
   pub owned : List ℕ
   pub shown : Shown b (flat (top ∷ rest))
   pub filled : all isFilled rest ≡ true
+  pub inOrder : all (ordered 0) (top ∷ rest) ≡ true
   pub members : Masks m (asRecord r owned)
 
 -- a sound group with room for one more record, and a sound record with the offsets that it owns

@@ -3,264 +3,315 @@ use group::Slot;
 use record::Left;
 use record::Record;
 ghost use mathlib.Core.Path.{_≡_};
-ghost use mathlib.Core.Bool.{true, false};
-ghost use mathlib.Core.List.{List, _∷_, map};
-ghost use mathlib.Core.Option.{Option·map};
-ghost use Prim.Native.Nat.{ℕ, _<_, _≤_};
-ghost use lib.ListN.{length, getD};
+ghost use mathlib.Core.Bool.{true};
+ghost use mathlib.Core.List.{List, [], _∷_, _++_};
+ghost use Prim.Native.Nat.{ℕ, _+_, _<_, _≤_};
+ghost use lib.ListN.{length, getD, take, drop};
+ghost use Rattle.model.specs.Device.{groupLength};
 ghost use Rattle.model.specs.Lists.{all};
-ghost use Rattle.model.specs.Record as model;
-ghost use Rattle.model.specs.Record.{kind, isApproximate};
-ghost use Rattle.model.specs.Levels.{shrink, fate, stayers, sinkers, sinkAll, insert};
-ghost use Rattle.model.specs.Sound.{soundRecord};
-ghost use Rattle.record.specs.Read.{asRecord, bare, leftOf};
+ghost use Rattle.model.specs.Levels.{Level, Group, fate, staying, sinking, sink, sinkAll, insert};
+ghost use Rattle.model.specs.Sound.{ordered};
+ghost use Rattle.record.specs.Read.{asRecord};
 ghost use Rattle.record.specs.Scan.{masked};
 ghost use Rattle.record.specs.Coding.{InEight};
 ghost use Rattle.group.specs.Layout.{slotsOf, ownerOf};
 ghost use Rattle.group.specs.Cutting.{Placed, flat};
-ghost use Rattle.group.specs.Held.{slotFor, Held};
+ghost use Rattle.group.specs.Held.{slotsFor, Held};
 ghost use Rattle.group.specs.Reading.{readGroup};
-ghost use Rattle.slots.specs.View.{Room, Shows};
-ghost use Rattle.slots.specs.Edits.{canGoDown};
-ghost use Rattle.bytes.specs.Slots.{removeAt};
-ghost use Rattle.group.specs.Answers as answers;
-ghost use Rattle.model.specs.Device.{groupLength};
-ghost use Rattle.insertion.specs.Slots.{noSlot, heldAt, records, standsBefore, slotIndex, meetsThere, meetsAt, keepAt, keepNext};
-ghost use Rattle.insertion.specs.InsertSlots.{given, giveUpSlots, sinkSlots, turn, turnNext, topSlots};
+ghost use Rattle.slots.specs.View.{Room, Shows, Owned};
+ghost use Rattle.slots.specs.Owners.{either};
+ghost use Rattle.insertion.specs.Slots.{noSlot, heldAt, keepAt, keepNext};
+ghost use Rattle.insertion.specs.InsertSlots.{given, Marked, Marking, isLoser, giveUpSlots, settle};
 ghost use Rattle.insertion.specs.Shown.{Shown, Tidy};
 ghost use Rattle.insertion.specs.Ready.{Masks, Parted, Ready};
+ghost use Rattle.insertion.specs.Turns.{Laid, Facing, MadeWay, side, outcome, endsBefore, isAhead, countAhead, meetsFirst};
 
-// Whether a slot stands before a record of level n that starts at `start`.
-fn before(s: Slot, n: u32, start: u32) -> bool
-    ensures { λ r. ⌜ ((p : Placed) (x : model.Record) → s ≡ slotFor p → start ≡ x .start → r ≡ standsBefore n x p) ⌝ }
-{
-    let held = s.held;
-    if s.level == n {
-        return !(start < held.start);
-    }
-    s.level < n
+// How a slot of level 0 comes out of its turn under a new record: it stays before the record's place, left its level, or stays
+// behind that place.
+pub enum Outcome {
+    Passed,
+    Taken,
+    Behind,
 }
 
-// The index at which a record of level n that starts at `start` goes.
-fn place_of(b: &[u8], n: u32, start: u32) -> u32
-    requires { ⌜ Room (now b) ⌝ }
-    ensures { λ r. ⌜ (r ≤ length (slotsOf (now (b .entry)))) × ((l : List Placed) (x : model.Record) → slotsOf (now (b .entry)) ≡ map slotFor l → start ≡ x .start → r ≡ slotIndex n x l) ⌝ }
+// The owner of an offset, if that is taken.
+fn if_taken(w: u32, taken: bool) -> u32
+    ensures { λ r. ⌜ r ≡ either taken w 0 ⌝ }
 {
-    let k = slots::used(b);
-    let mut i = 0;
-    while i < k {
-        let s = slots::get(b, i);
-        if !before(s, n, start) {
-            return i;
-        }
-        i += 1;
+    if taken {
+        return w;
     }
-    i
+    0
 }
 
-// Whether a slot is of level n and its record meets r.
-fn meets_there(s: Slot, n: u32, r: Record) -> bool
-    ensures { λ t. ⌜ ((p : Placed) (L : List ℕ) → s ≡ slotFor p → t ≡ meetsThere n (asRecord r L) p) ⌝ }
+// Marks whoever owns one of the mask's offsets from `start` to before `end`; whether somebody does.
+fn mark(b: &[u8], start: u32, end: u32, mask: &[u8], losers: &mut [u8]) -> bool
+    requires { ⌜ (length (now b) ≡ groupLength) × Owned (now b) × (end ≤ 256) × (length (now mask) ≡ 256) × (length (now losers) ≡ 257)
+        × ((o : ℕ) → o < 256 → ownerOf (now b) o ≤ 256) ⌝ }
+    ensures { λ t. ⌜ Marking (now (b .entry)) (now (mask .entry)) (now (losers .exit)) start end t ⌝ }
 {
-    if s.level != n {
+    let mut any = 0;
+    let mut o = start;
+    while o < end {
+        let w = slots::owners::owner(b, o);
+        let l = if_taken(w, mask[o as usize] != 0);
+        losers[l as usize] = 1;
+        any += l;
+        o += 1;
+    }
+    any != 0
+}
+
+// Whether a record is approximate and marked.
+fn loses(r: Record, losers: &[u8]) -> bool
+    requires { ⌜ (r .start < 256) × (length (now losers) ≡ 257) ⌝ }
+    ensures { λ t. ⌜ ((K : List ℕ) → t ≡ isLoser (now (losers .entry)) (asRecord r K)) ⌝ }
+{
+    if !r.is_approximate() {
         return false;
     }
-    let held = s.held;
-    r.meets(held)
+    losers[(r.start + 1) as usize] != 0
 }
 
-// Whether some slot of level n meets r.
-fn meets_at(b: &[u8], n: u32, r: Record) -> bool
-    requires { ⌜ Room (now b) ⌝ }
-    ensures { λ t. ⌜ ((l : List Placed) (L : List ℕ) → slotsOf (now (b .entry)) ≡ map slotFor l → t ≡ meetsAt n (asRecord r L) l) ⌝ }
-{
-    let m = slots::used(b);
-    let mut j = 0;
-    while j < m {
-        let s = slots::get(b, j);
-        if meets_there(s, n, r) {
-            return true;
-        }
-        j += 1;
-    }
-    false
-}
-
-// An approximate record of slot i loses the offsets taken, in place: it shrinks, or goes.
-fn shrink_owner(b: &mut [u8], i: u32, taken: &[u8]) -> Left
-    requires { ⌜ Tidy (now b) × (i < length (slotsOf (now b))) × (length (now taken) ≡ 256) × ((l : List Placed) → Shown (now b) l → isApproximate (kind (heldAt i l)) ≡ true) ⌝ }
-    ensures { λ x. ⌜ ((l : List Placed) → Shown (now (b .entry)) l → Shown (now (b .exit)) (keepAt i (getD l i noSlot .level) (shrink (masked (now (taken .entry))) (heldAt i l)) l) × (leftOf x ≡ Option·map bare (shrink (masked (now (taken .entry))) (heldAt i l)))) ⌝ }
+// Slot i, if it is a loser, gives up the offsets taken: its record shrinks, or goes. Answers the index of the slot that is next.
+fn give_up(b: &mut [u8], i: u32, taken: &[u8], losers: &[u8]) -> u32
+    requires { ⌜ Tidy (now b) × (i < length (slotsOf (now b))) × (length (now taken) ≡ 256) × (length (now losers) ≡ 257) × Marked (now b) (now taken) (now losers) ⌝ }
+    ensures { λ x. ⌜ Marked (now (b .exit)) (now (taken .entry)) (now (losers .entry))
+        × ((l : List Placed) → Shown (now (b .entry)) l → Shown (now (b .exit)) (keepAt i (getD l i noSlot .level) (given (masked (now (taken .entry))) (heldAt i l)) l)
+        × (x ≡ keepNext i (given (masked (now (taken .entry))) (heldAt i l)))) ⌝ }
 {
     let s = slots::get(b, i);
     let held = s.held;
-    let start = held.start;
-    let mut left = [0u8; 256];
-    slots::left_to(b, start, taken, &mut left);
-    match held.shrink_approximate(&left) {
-        Left::Kept(u) => {
-            slots::hand_over(b, start, &left, u.start);
-            slots::put(
-                b,
-                i,
-                Slot {
-                    level: s.level,
-                    held: u,
-                },
-            );
-            return Left::Kept(u);
-        }
-        Left::Gone => {
-            slots::disown(b, start);
-            slots::remove(b, i);
-            return Left::Gone;
-        }
-    }
-}
-
-// A single or accurate record of slot i loses the offsets taken, in place: it shrinks, or goes.
-fn shrink_other(b: &mut [u8], i: u32, taken: &[u8]) -> Left
-    requires { ⌜ Tidy (now b) × (i < length (slotsOf (now b))) × (length (now taken) ≡ 256) × ((l : List Placed) → Shown (now b) l → isApproximate (kind (heldAt i l)) ≡ false) ⌝ }
-    ensures { λ x. ⌜ ((l : List Placed) → Shown (now (b .entry)) l → Shown (now (b .exit)) (keepAt i (getD l i noSlot .level) (shrink (masked (now (taken .entry))) (heldAt i l)) l) × (leftOf x ≡ Option·map bare (shrink (masked (now (taken .entry))) (heldAt i l)))) ⌝ }
-{
-    let s = slots::get(b, i);
-    let held = s.held;
-    match held.shrink_accurate(taken) {
-        Left::Kept(u) => {
-            slots::put(
-                b,
-                i,
-                Slot {
-                    level: s.level,
-                    held: u,
-                },
-            );
-            return Left::Kept(u);
-        }
-        Left::Gone => {
-            slots::remove(b, i);
-            return Left::Gone;
-        }
-    }
-}
-
-// The record of slot i loses the offsets taken, in place: it shrinks, or goes.
-fn shrink_at(b: &mut [u8], i: u32, taken: &[u8]) -> Left
-    requires { ⌜ Tidy (now b) × (i < length (slotsOf (now b))) × (length (now taken) ≡ 256) ⌝ }
-    ensures { λ x. ⌜ ((l : List Placed) → Shown (now (b .entry)) l → Shown (now (b .exit)) (keepAt i (getD l i noSlot .level) (shrink (masked (now (taken .entry))) (heldAt i l)) l) × (leftOf x ≡ Option·map bare (shrink (masked (now (taken .entry))) (heldAt i l)))) ⌝ }
-{
-    let s = slots::get(b, i);
-    let held = s.held;
-    if held.is_approximate() {
-        return shrink_owner(b, i, taken);
-    }
-    shrink_other(b, i, taken)
-}
-
-// Slot i, if it is approximate, gives up the offsets taken. Answers the index of the slot that is next.
-fn give_up(b: &mut [u8], i: u32, taken: &[u8]) -> u32
-    requires { ⌜ Tidy (now b) × (i < length (slotsOf (now b))) × (length (now taken) ≡ 256) ⌝ }
-    ensures { λ x. ⌜ ((l : List Placed) → Shown (now (b .entry)) l → Shown (now (b .exit)) (keepAt i (getD l i noSlot .level) (given (masked (now (taken .entry))) (heldAt i l)) l) × (x ≡ keepNext i (given (masked (now (taken .entry))) (heldAt i l)))) ⌝ }
-{
-    let s = slots::get(b, i);
-    let held = s.held;
-    if !held.is_approximate() {
+    if !loses(held, losers) {
         return i + 1;
     }
-    match shrink_owner(b, i, taken) {
-        Left::Kept(_) => {
+    match slots::owners::left_of(b, held, taken) {
+        Left::Kept(u) => {
+            slots::put(
+                b,
+                i,
+                Slot {
+                    level: s.level,
+                    held: u,
+                },
+            );
             return i + 1;
         }
         Left::Gone => {
+            slots::remove(b, i);
             return i;
         }
     }
 }
 
-// Every approximate record gives up the offsets taken.
-fn give_up_all(b: &mut [u8], taken: &[u8])
-    requires { ⌜ Tidy (now b) × (length (now taken) ≡ 256) ⌝ }
-    ensures { λ _. ⌜ ((l : List Placed) → Shown (now (b .entry)) l → Shown (now (b .exit)) (giveUpSlots (masked (now (taken .entry))) l)) ⌝ }
+// Every loser gives up the offsets taken. Answers how many slots are left.
+fn give_up_all(b: &mut [u8], taken: &[u8], losers: &[u8]) -> u32
+    requires { ⌜ Tidy (now b) × (length (now taken) ≡ 256) × (length (now losers) ≡ 257) × Marked (now b) (now taken) (now losers) ⌝ }
+    ensures { λ x. ⌜ ((l : List Placed) → Shown (now (b .entry)) l → Shown (now (b .exit)) (giveUpSlots (masked (now (taken .entry))) l)
+        × (x ≡ length (giveUpSlots (masked (now (taken .entry))) l))) ⌝ }
 {
     let mut k = slots::used(b);
     let mut i = 0;
     while 0 < k {
-        i = give_up(b, i, taken);
+        i = give_up(b, i, taken, losers);
         k -= 1;
     }
+    i
 }
 
-// Puts r at level 1 if it meets nothing there, otherwise on a new level 1 of its own.
-fn sink_in(b: &mut [u8], r: Record)
-    requires { ⌜ (length (now b) ≡ groupLength) × (length (slotsOf (now b)) < 512) × InEight r × (all canGoDown (slotsOf (now b)) ≡ true) ⌝ }
-    ensures { λ _. ⌜ ((l : List Placed) (L : List ℕ) → slotsOf (now (b .entry)) ≡ map slotFor l → all (soundRecord 256 0) (records l) ≡ true → Shows (now (b .exit)) (map slotFor (sinkSlots (asRecord r L) l)) (ownerOf (now (b .entry)))) ⌝ }
+// How many slots are of level 0.
+fn level_end(b: &[u8]) -> u32
+    requires { ⌜ Room (now b) ⌝ }
+    ensures { λ r. ⌜ (r ≤ length (slotsOf (now (b .entry)))) × ((l : Level) (g : Group) → slotsOf (now (b .entry)) ≡ slotsFor (l ∷ g) → r ≡ length l) ⌝ }
 {
-    if meets_at(b, 1, r) {
-        let z = place_of(b, 0, 255);
+    let mut low = 0;
+    let mut high = slots::used(b);
+    while low < high {
+        let mid = low + (high - low) / 2;
+        if slots::level(b, mid) == 0 {
+            low = mid + 1;
+            continue;
+        }
+        high = mid;
+    }
+    low
+}
+
+// How many of level 0's z slots end before `start`.
+fn first_met(b: &[u8], z: u32, start: u32) -> u32
+    requires { ⌜ Room (now b) × (z ≤ length (slotsOf (now b))) ⌝ }
+    ensures { λ r. ⌜ (r ≤ z) × ((l : Level) (g : Group) → slotsOf (now (b .entry)) ≡ slotsFor (l ∷ g) → z ≡ length l → ordered 0 l ≡ true → all (endsBefore start) (take r l) ≡ true) ⌝ }
+{
+    let mut low = 0;
+    let mut high = z;
+    while low < high {
+        let mid = low + (high - low) / 2;
+        let s = slots::get(b, mid);
+        let held = s.held;
+        if held.start + held.span < start {
+            low = mid + 1;
+            continue;
+        }
+        high = mid;
+    }
+    low
+}
+
+// Whether a slot is of level 1 and ends before `start`.
+fn is_ahead(s: Slot, start: u32) -> bool
+    requires { ⌜ InEight (s .held) ⌝ }
+    ensures { λ t. ⌜ t ≡ isAhead start s ⌝ }
+{
+    if s.level != 1 {
+        return false;
+    }
+    let held = s.held;
+    held.start + held.span < start
+}
+
+// The first slot from slot z on that isn't of level 1 or doesn't end before `start`.
+fn skip(b: &[u8], z: u32, start: u32) -> u32
+    requires { ⌜ Room (now b) × (z ≤ length (slotsOf (now b))) ⌝ }
+    ensures { λ r. ⌜ (r ≤ length (slotsOf (now (b .entry)))) × (r ≡ z + countAhead start (drop z (slotsOf (now (b .entry))))) ⌝ }
+{
+    let m = slots::used(b);
+    let mut j = z;
+    while j < m {
+        let s = slots::get(b, j);
+        if !is_ahead(s, start) {
+            return j;
+        }
+        j += 1;
+    }
+    j
+}
+
+// Whether slot p is used, is of level 1 and meets u.
+fn meets_there(b: &[u8], p: u32, u: Record) -> bool
+    requires { ⌜ Room (now b) × (p ≤ length (slotsOf (now b))) ⌝ }
+    ensures { λ t. ⌜ t ≡ meetsFirst u (drop p (slotsOf (now (b .entry)))) ⌝ }
+{
+    if p == slots::used(b) {
+        return false;
+    }
+    let s = slots::get(b, p);
+    if s.level != 1 {
+        return false;
+    }
+    let held = s.held;
+    u.meets(held)
+}
+
+// Slot i of level 0's z slots goes, and u, what is left of its record, moves to level 1, or to a new level 1 of its own if it
+// meets a record there.
+fn lower(b: &mut [u8], i: u32, z: u32, u: Record)
+    requires { ⌜ Laid (now b) i z × InEight u ⌝ }
+    ensures { λ _. ⌜ ((q : Laid (now (b .entry)) i z) (L : List ℕ) → Shows (now (b .exit)) (slotsFor ((q .before ++ q .behind) ∷ sink (asRecord u L) (q .below))) (ownerOf (now (b .entry)))) ⌝ }
+{
+    let start = u.start;
+    let p = skip(b, z, start);
+    if meets_there(b, p, u) {
         slots::push_down(b, z);
-        slots::insert(b, z, Slot { level: 1, held: r });
+        slots::shift(b, i, z, Slot { level: 1, held: u });
         return;
     }
-    let start = r.start;
-    let p = place_of(b, 1, start);
-    slots::insert(b, p, Slot { level: 1, held: r });
+    slots::shift(b, i, p, Slot { level: 1, held: u });
 }
 
-// Moves the record of slot i down to level 1.
-fn lower(b: &mut [u8], i: u32)
-    requires { ⌜ Tidy (now b) × (i < length (slotsOf (now b))) × (all canGoDown (slotsOf (now b)) ≡ true) ⌝ }
-    ensures { λ _. ⌜ ((l : List Placed) → Shown (now (b .entry)) l → Shown (now (b .exit)) (sinkSlots (heldAt i l) (removeAt i l))) ⌝ }
+// On which side of r's place a record beside r stands.
+fn side_of(u: Record, r: Record) -> Outcome
+    ensures { λ x. ⌜ ((K L : List ℕ) → x ≡ side (asRecord r L) (asRecord u K)) ⌝ }
 {
-    let s = slots::get(b, i);
-    let held = s.held;
-    slots::remove(b, i);
-    sink_in(b, held);
+    if r.start < u.start {
+        return Outcome::Behind;
+    }
+    Outcome::Passed
 }
 
-// Slot i of level 0 meets its fate under r, whose members the mask has. Answers the index of the slot that is next.
-fn turn(b: &mut [u8], i: u32, r: Record, mask: &[u8]) -> u32
-    requires { ⌜ Tidy (now b) × (i < length (slotsOf (now b))) × (getD (slotsOf (now b)) i answers.noSlot .level ≡ 0) × (length (now mask) ≡ 256) × (all canGoDown (slotsOf (now b)) ≡ true) ⌝ }
-    ensures { λ x. ⌜ ((l : List Placed) (L : List ℕ) → Shown (now (b .entry)) l → Masks (now (mask .entry)) (asRecord r L) → Shown (now (b .exit)) (turn (fate (asRecord r L) (heldAt i l)) i l) × (x ≡ turnNext (fate (asRecord r L) (heldAt i l)) i)) ⌝ }
+// Slot i of level 0's z slots meets its fate under r, whose members the mask has.
+fn turn(b: &mut [u8], i: u32, z: u32, r: Record, mask: &[u8]) -> Outcome
+    requires { ⌜ Facing (now b) i z × (length (now mask) ≡ 256) ⌝ }
+    ensures { λ x. ⌜ ((q : Facing (now (b .entry)) i z) (L : List ℕ) → Masks (now (mask .entry)) (asRecord r L)
+        → Shown (now (b .exit)) (flat ((q .laid .before ++ staying (fate (asRecord r L) (q .laid .item)) (q .laid .behind)) ∷ sinkAll (sinking (fate (asRecord r L) (q .laid .item)) []) (q .laid .below)))
+        × (x ≡ outcome (asRecord r L) (fate (asRecord r L) (q .laid .item)))) ⌝ }
 {
     let s = slots::get(b, i);
     let held = s.held;
     if !held.meets(r) {
-        return i + 1;
+        return side_of(held, r);
     }
-    match shrink_at(b, i, mask) {
+    match slots::owners::left_of(b, held, mask) {
         Left::Kept(u) => {
-            if !u.meets(r) {
-                return i + 1;
+            if u.meets(r) {
+                lower(b, i, z, u);
+                return Outcome::Taken;
             }
-            lower(b, i);
-            return i;
+            slots::put(b, i, Slot { level: 0, held: u });
+            return side_of(u, r);
         }
         Left::Gone => {
-            return i;
+            slots::remove(b, i);
+            return Outcome::Taken;
         }
     }
 }
 
-// All slots of level 0 meet their fates under r.
-fn victims(b: &mut [u8], r: Record, mask: &[u8])
-    requires { ⌜ Parted (now b) (now mask) r × (length (now mask) ≡ 256) ⌝ }
-    ensures { λ _. ⌜ ((q : Parted (now (b .entry)) (now (mask .entry)) r) → Shown (now (b .exit)) (flat (stayers (asRecord r (q .owned)) (q .top) ∷ sinkAll (sinkers (asRecord r (q .owned)) (q .top)) (q .rest)))) ⌝ }
+// From slot i on level 0's z slots meet their fates under r; those before it end before r. Answers r's place.
+fn fates(b: &mut [u8], from: u32, z: u32, r: Record, mask: &[u8]) -> u32
+    requires { ⌜ Parted (now b) (now mask) r × (length (now mask) ≡ 256) × (from ≤ z)
+        × ((q : Parted (now b) (now mask) r) → (z ≡ length (q .top)) × (all (endsBefore (r .start)) (take from (q .top)) ≡ true)) ⌝ }
+    ensures { λ p. ⌜ ((q : Parted (now (b .entry)) (now (mask .entry)) r) → MadeWay (asRecord r (q .owned)) (q .top) (q .rest) (now (b .exit)) p) ⌝ }
 {
-    let mut k = place_of(b, 0, 255);
-    let mut i = 0;
+    let mut i = from;
+    let mut k = z - from;
     while 0 < k {
-        i = turn(b, i, r, mask);
-        k -= 1;
+        match turn(b, i, i + k, r, mask) {
+            Outcome::Passed => {
+                i += 1;
+                k -= 1;
+                continue;
+            }
+            Outcome::Taken => {
+                k -= 1;
+                continue;
+            }
+            Outcome::Behind => {
+                return i;
+            }
+        }
     }
+    i
 }
 
-// Puts r at its place of level 0.
-fn top(b: &mut [u8], r: Record)
-    requires { ⌜ (length (now b) ≡ groupLength) × (length (slotsOf (now b)) < 512) × InEight r ⌝ }
-    ensures { λ _. ⌜ ((l : List Placed) (L : List ℕ) → slotsOf (now (b .entry)) ≡ map slotFor l → Shows (now (b .exit)) (map slotFor (topSlots (asRecord r L) l)) (ownerOf (now (b .entry)))) ⌝ }
+// The slots of level 0 meet their fates under r. Answers r's place.
+fn victims(b: &mut [u8], r: Record, mask: &[u8]) -> u32
+    requires { ⌜ Parted (now b) (now mask) r × (length (now mask) ≡ 256) ⌝ }
+    ensures { λ p. ⌜ ((q : Parted (now (b .entry)) (now (mask .entry)) r) → MadeWay (asRecord r (q .owned)) (q .top) (q .rest) (now (b .exit)) p) ⌝ }
 {
+    let z = level_end(b);
     let start = r.start;
-    let p = place_of(b, 0, start);
-    slots::insert(b, p, Slot { level: 0, held: r });
+    let from = first_met(b, z, start);
+    fates(b, from, z, r, mask)
+}
+
+// Every approximate record gives up the offsets of r, and levels that are left empty go.
+fn clear_way(b: &mut [u8], r: Record, mask: &[u8])
+    requires { ⌜ Ready (now b) (now mask) r ⌝ }
+    ensures { λ _. ⌜ ((q : Ready (now (b .entry)) (now (mask .entry)) r) → Shown (now (b .exit)) (settle 0 0 (giveUpSlots (masked (now (mask .entry))) (flat (q .group))))) ⌝ }
+{
+    if group::flag(b) == 0 {
+        return;
+    }
+    let start = r.start;
+    let mut losers = [0u8; 257];
+    if !mark(b, start, start + r.span + 1, mask, &mut losers) {
+        return;
+    }
+    let n = slots::used(b);
+    if give_up_all(b, mask, &losers) == n {
+        return;
+    }
+    slots::renumber_levels(b);
 }
 
 // Inserts r, whose members the mask has, at level 0 of the group.
@@ -269,14 +320,12 @@ pub fn insert(b: &mut [u8], r: Record, mask: &[u8])
     ensures { λ _. ⌜ ((q : Ready (now (b .entry)) (now (mask .entry)) r) → Held (now (b .exit)) (insert (asRecord r (q .owned)) (q .group)) × (readGroup (now (b .exit)) ≡ insert (asRecord r (q .owned)) (readGroup (now (b .entry))))) ⌝ }
 {
     if r.is_approximate() {
-        give_up_all(b, mask);
-        slots::renumber_levels(b);
-        victims(b, r, mask);
-        top(b, r);
-        let start = r.start;
-        slots::own(b, start, mask);
+        clear_way(b, r, mask);
+        let p = victims(b, r, mask);
+        slots::insert(b, p, Slot { level: 0, held: r });
+        slots::owners::own(b, r, mask);
         return;
     }
-    victims(b, r, mask);
-    top(b, r);
+    let p = victims(b, r, mask);
+    slots::insert(b, p, Slot { level: 0, held: r });
 }

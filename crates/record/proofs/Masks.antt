@@ -8,22 +8,17 @@ use native.Mathlib.Nat.{mod-lt, mod-one, mod-le, mod-add-div', mul-mod-left}
 use lib.Dec.{eqb}
 use lib.ListN.{getD}
 use borrow.Author.Tests.{eqb-true, eq-eqb}
-use Rattle.model.specs.Lists.{elem}
 use Rattle.model.specs.Record.{Record, member, memberAs, accurate}
 use Rattle.model.proofs.Bools.{iff-bool}
 use Rattle.model.proofs.Shrink.{On, on-of, of-on, member-as}
 use Rattle.record.specs.Scan.{masked, stays, onStride}
 use Rattle.record.proofs.Words.{kind-even}
-use Rattle.record.proofs.Members.{member-owned, member-single}
+use Rattle.record.proofs.Members.{member-single}
 use Rattle.record.proofs.Strides.{on-stride, stride-on, gap}
 
-pub stays-kept : (b : Bool) (m : List ℕ) (o : ℕ) → b ≡ true → masked m o ≡ stays b m o
+pub stays-taken : (m : List ℕ) (o : ℕ) → eqb (getD m o 0) 0 ≡ stays m o
 unfolding stays
-stays-kept b m o h = rw h
-
-pub stays-taken : (b : Bool) (m : List ℕ) (o : ℕ) → b ≡ false → eqb (getD m o 0) 0 ≡ stays b m o
-unfolding stays
-stays-taken b m o h = rw h (twice (eqb (getD m o 0) 0))
+stays-taken m o = twice (eqb (getD m o 0) 0)
   where
     twice : (t : Bool) → t ≡ not (not t)
     twice true = refl
@@ -48,7 +43,7 @@ module _ (s l d : ℕ) (some : 0 < d) where
           omega (arith, gap s d (s + (l - l % d)) o a b c whole p)
 
 module _ (r : Record) (m : List ℕ) where
-  pub single-picks : r .word ≡ 0 → (o : ℕ) → o < 256 → (member r o && not (masked m o)) ≡ (onStride (r .start) 1 (r .start) o && stays false m o)
+  pub single-picks : r .word ≡ 0 → (o : ℕ) → o < 256 → (member r o && not (masked m o)) ≡ (onStride (r .start) 1 (r .start) o && stays m o)
   unfolding stays
   single-picks w o h = ap (λ (t : Bool). t && not (masked m o)) (sym (member-single r o w) ∙ iff-bool _ _ there back)
     where
@@ -63,7 +58,7 @@ module _ (r : Record) (m : List ℕ) where
           eq-eqb o (r .start) (omega (arith, q .low, q .high))
 
   pub strided-picks : (r .word ≡ 0 → ⊥) → (r .word % 2 ≡ 1 → ⊥) → (o : ℕ) → o < 256
-      → (member r o && not (masked m o)) ≡ (onStride (r .start) (r .word / 2) (r .start + (r .span - r .span % (r .word / 2))) o && stays false m o)
+      → (member r o && not (masked m o)) ≡ (onStride (r .start) (r .word / 2) (r .start + (r .span - r .span % (r .word / 2))) o && stays m o)
   unfolding stays
   strided-picks more even o h = ap (λ (t : Bool). t && not (masked m o)) (member-as r _ o (kind-even _ more even) ∙ iff-bool _ _ there back)
     where
@@ -77,10 +72,3 @@ module _ (r : Record) (m : List ℕ) where
       back y =
           let q = stride-on _ (r .word / 2) _ o y in
           of-on _ r o (record { low = q .low; high = omega (arith, q .high); step = q .step })
-
-  pub owned-picks : (lost : ℕ → Bool) → r .word % 2 ≡ 1 → (o : ℕ) → o < 256 → masked m o ≡ (elem o (r .owned) && not (lost o))
-      → (member r o && not (lost o)) ≡ (onStride 0 1 255 o && stays true m o)
-  unfolding stays
-  owned-picks lost w o h e =
-      let all : onStride 0 1 255 o ≡ true = on-stride (record { low = omega arith; high = omega arith; step = mod-one (o - 0) }) in
-      rw (← member-owned r o w, ← e, all)

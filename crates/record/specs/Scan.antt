@@ -10,10 +10,9 @@ use lib.ListN.{getD}
 abbrev pub masked : List ℕ → ℕ → Bool
 masked m o = not (eqb (getD m o 0) 0)
 
--- offset o stays: the mask is of those that do, or of those that don't
-unfoldable pub stays : Bool → List ℕ → ℕ → Bool
-stays true m o = masked m o
-stays false m o = not (masked m o)
+-- offset o stays: the mask, of those taken, doesn't have it
+unfoldable pub stays : List ℕ → ℕ → Bool
+stays m o = not (masked m o)
 
 -- o is one of s, s + d, .. to e
 unfoldable pub onStride : ℕ → ℕ → ℕ → ℕ → Bool

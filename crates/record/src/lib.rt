@@ -1,12 +1,12 @@
 // The mapping record by value: its kind, members, predicted page, and what is left of it when members are taken.
 ghost use mathlib.Core.Path.{_≡_};
-ghost use mathlib.Core.Bool.{Bool, true, false, not, _&&_};
+ghost use mathlib.Core.Bool.{Bool, true, false, _&&_};
 ghost use mathlib.Core.List.{List, []};
 ghost use mathlib.Core.Option.{Option·map};
 ghost use Prim.Native.Nat.{ℕ, _+_, _-_, _<_, _≤_, _%_};
 ghost use lib.ListN.{length};
-ghost use Rattle.model.specs.Lists.{elem, select, store};
-ghost use Rattle.model.specs.Record.{kind, isApproximate, end, covers, member, rise, predict};
+ghost use Rattle.model.specs.Lists.{select, store};
+ghost use Rattle.model.specs.Record.{kind, isApproximate, covers, member, rise, predict};
 ghost use Rattle.model.specs.Levels.{meets, shrunkToAny, shrink};
 ghost use Rattle.record.specs.Read.{asRecord, bare, OwnedAs, pageOf, existing, leftOf};
 ghost use Rattle.record.specs.Scan.{masked, stays, onStride, First, Last};
@@ -40,14 +40,6 @@ impl Record {
         ensures { λ r. ⌜ ((owned : List ℕ) → r ≡ isApproximate (kind (asRecord self owned))) ⌝ }
     {
         self.word % 2 == 1
-    }
-
-    // The last offset of the range.
-    pub fn end(self) -> u32
-        requires { ⌜ self .start + self .span ≤ 255 ⌝ }
-        ensures { λ r. ⌜ ((owned : List ℕ) → r ≡ end (asRecord self owned)) ⌝ }
-    {
-        self.start + self.span
     }
 
     // Whether offset o lies in the range.
@@ -131,15 +123,15 @@ impl Record {
     }
 
     // What is left of it: the first and last of the offsets s, s + d, .. to e that stay by the mask, and all between.
-    fn shrunk(self, mask: &[u8], kept: bool, s: u32, d: u32, e: u32) -> Left
+    fn shrunk(self, mask: &[u8], s: u32, d: u32, e: u32) -> Left
         requires { ⌜ (length (now mask) ≡ 256) × (0 < d) × (d ≤ 2147483648) × (s ≤ e) × (e ≤ 255) × ((e - s) % d ≡ 0) ⌝ }
-        ensures { λ r. ⌜ ((L : List ℕ) (t : ℕ → Bool) → ((o : ℕ) → o < 256 → t o ≡ (onStride s d e o && stays kept (now (mask .entry)) o)) → leftOf r ≡ Option·map bare (shrunkToAny (asRecord self L) (select t 256 0))) ⌝ }
+        ensures { λ r. ⌜ ((L : List ℕ) (t : ℕ → Bool) → ((o : ℕ) → o < 256 → t o ≡ (onStride s d e o && stays (now (mask .entry)) o)) → leftOf r ≡ Option·map bare (shrunkToAny (asRecord self L) (select t 256 0))) ⌝ }
     {
-        let f = first(mask, kept, s, d, e);
+        let f = first(mask, s, d, e);
         if e < f {
             return Left::Gone;
         }
-        let g = last(mask, kept, f, d, e);
+        let g = last(mask, f, d, e);
         let span = g - f;
         Left::Kept(Record {
             start: f,
@@ -157,19 +149,11 @@ impl Record {
         let s = self.start;
         let w = self.word;
         if w == 0 {
-            return self.shrunk(taken, false, s, 1, s);
+            return self.shrunk(taken, s, 1, s);
         }
         let d = w / 2;
         let e = s + (self.span - self.span % d);
-        self.shrunk(taken, false, s, d, e)
-    }
-
-    // What is left of an approximate record, where the mask has the offsets that it owns and keeps.
-    pub fn shrink_approximate(self, left: &[u8]) -> Left
-        requires { ⌜ (length (now left) ≡ 256) × (isApproximate (kind (asRecord self [])) ≡ true) ⌝ }
-        ensures { λ r. ⌜ ((L : List ℕ) (lost : ℕ → Bool) → ((o : ℕ) → o < 256 → masked (now (left .entry)) o ≡ (elem o L && not (lost o))) → leftOf r ≡ Option·map bare (shrink lost (asRecord self L))) ⌝ }
-    {
-        self.shrunk(left, true, 0, 1, 255)
+        self.shrunk(taken, s, d, e)
     }
 
     // Stores its eight bytes at p.
@@ -201,26 +185,22 @@ pub fn decode(s: &[u8], p: usize) -> Record
     }
 }
 
-// Whether offset o stays: the mask is of those that do, or of those that don't.
-fn staying(mask: &[u8], kept: bool, o: u32) -> bool
+// Whether offset o stays: the mask, of those taken, doesn't have it.
+fn staying(mask: &[u8], o: u32) -> bool
     requires { ⌜ (length (now mask) ≡ 256) × (o < 256) ⌝ }
-    ensures { λ r. ⌜ r ≡ stays kept (now (mask .entry)) o ⌝ }
+    ensures { λ r. ⌜ r ≡ stays (now (mask .entry)) o ⌝ }
 {
-    let i = o as usize;
-    if kept {
-        return mask[i] != 0;
-    }
-    mask[i] == 0
+    mask[o as usize] == 0
 }
 
 // The first of s, s + d, .. to e that stays; above e if none does.
-fn first(mask: &[u8], kept: bool, s: u32, d: u32, e: u32) -> u32
+fn first(mask: &[u8], s: u32, d: u32, e: u32) -> u32
     requires { ⌜ (length (now mask) ≡ 256) × (0 < d) × (d ≤ 2147483648) × (e ≤ 255) ⌝ }
-    ensures { λ r. ⌜ First (stays kept (now (mask .entry))) s d e r ⌝ }
+    ensures { λ r. ⌜ First (stays (now (mask .entry))) s d e r ⌝ }
 {
     let mut o = s;
     while o <= e {
-        if staying(mask, kept, o) {
+        if staying(mask, o) {
             return o;
         }
         o += d;
@@ -229,13 +209,13 @@ fn first(mask: &[u8], kept: bool, s: u32, d: u32, e: u32) -> u32
 }
 
 // The last of f, f + d, .. to e that stays; f does.
-fn last(mask: &[u8], kept: bool, f: u32, d: u32, e: u32) -> u32
-    requires { ⌜ (length (now mask) ≡ 256) × (0 < d) × (f ≤ e) × (e ≤ 255) × ((e - f) % d ≡ 0) × (stays kept (now mask) f ≡ true) ⌝ }
-    ensures { λ r. ⌜ Last (stays kept (now (mask .entry))) f d e r ⌝ }
+fn last(mask: &[u8], f: u32, d: u32, e: u32) -> u32
+    requires { ⌜ (length (now mask) ≡ 256) × (0 < d) × (f ≤ e) × (e ≤ 255) × ((e - f) % d ≡ 0) × (stays (now mask) f ≡ true) ⌝ }
+    ensures { λ r. ⌜ Last (stays (now (mask .entry))) f d e r ⌝ }
 {
     let mut o = e;
     while f < o {
-        if staying(mask, kept, o) {
+        if staying(mask, o) {
             return o;
         }
         o -= d;

@@ -2,8 +2,10 @@ pub mod Maps
 pub mod Reading
 pub mod Ten
 pub mod SlotWrites
+pub mod Shifts
+pub mod OwnerPasses
 pub mod OwnerWrites
 pub mod Behind
 pub mod Owning
-pub mod Passes
 pub mod SlotPass
+pub mod Leaving

@@ -1,5 +1,5 @@
 -- The used slots, the flag and the entries after the flag or one entry was stored: the bytes of the others stay. Assumes nothing.
-use mathlib.Core.Path.{_≡_, refl, _∙_}
+use mathlib.Core.Path.{_≡_, refl, sym, _∙_}
 use mathlib.Core.List.{List}
 use mathlib.Core.Bool.{Bool, true, false}
 use Prim.Native.Nat.{ℕ, _+_, _≤_, _<_}
@@ -13,9 +13,10 @@ use Rattle.model.proofs.Lists.{length-store}
 use Rattle.bytes.specs.Little.{bytes2}
 use Rattle.bytes.proofs.Same.{Same, stored-below, stored-above}
 use Rattle.bytes.proofs.ReadWrite.{length-bytes2, le16-same, le16-stored}
-use Rattle.group.specs.Layout.{offsets, usedPlace, flagPlace, slotsPlace, ownersPlace, ownerPlace, flagOf, slotsOf, entryOf}
-use Rattle.slots.specs.View.{Room, Entered}
-use Rattle.slots.proofs.Reading.{slotsLength, entriesLength, slots-kept, flag-same, entries-kept}
+use Rattle.group.specs.Layout.{offsets, usedPlace, flagPlace, slotsPlace, ownersPlace, ownerPlace, flagOf, slotsOf, entryOf, ownerOf}
+use Rattle.group.proofs.Cases.{owner-none, owner-entry}
+use Rattle.slots.specs.View.{Room, Shows, Owned, OwnerPut, OwnersPut}
+use Rattle.slots.proofs.Reading.{slotsLength, entriesLength, slots-kept, flag-same, entries-kept, owner-same}
 
 -- the flag became v; all else is as before
 pub record Flagged (s t : List ℕ) (v : ℕ) : Type 0 where
@@ -39,6 +40,14 @@ flag-stored s t v room small e =
       entries = entries-kept (above entriesLength ownersPlace (omega arith));
     })
 
+-- the entry of offset o became w; all else is as before
+record Entered (s t : List ℕ) (o w : ℕ) : Type 0 where
+  room : Room t
+  slots : slotsOf t ≡ slotsOf s
+  flag : flagOf t ≡ flagOf s
+  there : entryOf t o ≡ w
+  others : (k : ℕ) → (k ≡ o → ⊥) → entryOf t k ≡ entryOf s k
+
 -- the entry of offset o is stored
 module _ (s : List ℕ) (o w : ℕ) (room : Room s) (inside : o < offsets) (small : w < 65536) where
   abbrev entered : List ℕ
@@ -56,7 +65,7 @@ module _ (s : List ℕ) (o w : ℕ) (room : Room s) (inside : o < offsets) (smal
           let m : o < k = omega arith in
           stored-above 2 s (ownerPlace o) (bytes2 w) (ownerPlace k) (omega arith)
 
-  pub entry-stored : (t : List ℕ) → t ≡ store s (ownerPlace o) (bytes2 w) → Entered s t o w
+  entry-stored : (t : List ℕ) → t ≡ store s (ownerPlace o) (bytes2 w) → Entered s t o w
   unfolding groupLength entryOf
   entry-stored t e =
       let long : length entered ≡ groupLength = length-store s (ownerPlace o) (bytes2 w) ∙ room .0 in
@@ -69,3 +78,22 @@ module _ (s : List ℕ) (o w : ℕ) (room : Room s) (inside : o < offsets) (smal
         there = le16-stored s (ownerPlace o) w (omega arith) small;
         others = entry-other;
       })
+
+  -- the entry is the owner where the flag is set
+  pub owner-stored : (t : List ℕ) → Owned s → t ≡ store s (ownerPlace o) (bytes2 w) → OwnerPut s t o w
+  owner-stored t on e =
+      let r = entry-stored t e in
+      record {
+        room = r .room;
+        slots = r .slots;
+        flag = r .flag;
+        there = owner-entry t o (λ z. omega (arith, r .flag)) ∙ r .there;
+        others = λ k n. owner-same s t k (r .flag) (r .others k n);
+      }
+
+-- the flag set where it was 0, and every owner cleared: no offset had one
+pub opened : (s t u : List ℕ) → flagOf s ≡ 0 → Flagged s t 1 → OwnersPut (λ o w. 0) t u 0 offsets → Shows u (slotsOf s) (ownerOf s) × Owned u
+opened s t u off on put = (
+  (put .room .0, put .slots ∙ on .slots, λ o h. put .there o (omega arith) h ∙ sym (owner-none s o off)),
+  omega (arith, put .flag, on .flag),
+)

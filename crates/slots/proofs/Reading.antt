@@ -46,7 +46,7 @@ slot-read b i =
     let level : le16 (tenAt b i) levelInSlot ≡ le16 b (slotPlace i + levelInSlot) = le16-same (same-inner levelInSlot 2 (omega arith) a) in
     rw (level, record-same (same-first 8 (omega arith) a))
 
-slotsFrom-read : (b : List ℕ) (i n : ℕ) → slotsFrom b i n ≡ map slotIn (slots slotWidth (slotPlace i) n b)
+pub slotsFrom-read : (b : List ℕ) (i n : ℕ) → slotsFrom b i n ≡ map slotIn (slots slotWidth (slotPlace i) n b)
 unfolding slotsFrom slots slotAt
 slotsFrom-read b i zero = refl
 slotsFrom-read b i (suc n) =

@@ -19,14 +19,14 @@ use Rattle.bytes.proofs.ReadWrite.{length-bytes2, le16-stored}
 use Rattle.bytes.proofs.Moves.{length-moved, moved-below, moved-above}
 use Rattle.bytes.proofs.SlotLaws.{length-slotAt, slots-same, slots-open, slots-close, slots-store}
 use Rattle.group.specs.declared.Slot.{Slot}
-use Rattle.group.specs.Layout.{offsets, usedPlace, flagPlace, slotsPlace, slotWidth, slotPlace, levelInSlot, levelPlace, ownersPlace, usedOf, slotsOf, ownerOf}
+use Rattle.group.specs.Layout.{offsets, usedPlace, flagPlace, slotsPlace, slotWidth, slotPlace, levelInSlot, levelPlace, ownersPlace, usedOf, slotsFrom, slotsOf, ownerOf}
 use Rattle.group.specs.Answers.{noSlot}
 use Rattle.group.proofs.Slots.{length-slotsOf, getD-slotsOf}
 use Rattle.slots.specs.Coding.{ten, InTen}
 use Rattle.slots.specs.View.{Room, Shows}
 use Rattle.slots.specs.Edits.{replaceAt, atLevel}
 use Rattle.slots.proofs.Maps.{map-set, map-insertAt, map-removeAt}
-use Rattle.slots.proofs.Reading.{entriesLength, tenAt, tens, slotIn, slot-read, slotsOf-read, used-same, owners-kept}
+use Rattle.slots.proofs.Reading.{entriesLength, tenAt, tens, slotIn, slot-read, slotsFrom-read, slotsOf-read, used-same, owners-kept}
 use Rattle.slots.proofs.Ten.{length-ten, ten-back, level-over}
 
 -- a store in the array of slots
@@ -89,6 +89,9 @@ counted t n long few =
           ∙ ap (map slotIn) (slots-same slotWidth n (stored-above (n * slotWidth) t usedPlace (bytes2 n) slotsPlace (omega arith)) (omega arith) (omega arith)),
       owners-kept (stored-above 2 t usedPlace (bytes2 n) flagPlace (omega arith)) (stored-above entriesLength t usedPlace (bytes2 n) ownersPlace (omega arith)),
     )
+
+pub used-shows : (s t : List ℕ) (n : ℕ) → length s ≡ groupLength → n ≤ groupLimit → t ≡ store s usedPlace (bytes2 n) → Shows t (slotsFrom s 0 n) (ownerOf s)
+used-shows s t n long few e = let shows = counted s n long few in rw e (shows .0, shows .1 ∙ sym (slotsFrom-read s 0 n), shows .2)
 
 -- a slot is put in: the slots from it on moved up, its ten bytes stored, one more counted
 module _ (s t u w : List ℕ) (n i : ℕ) (v : Slot) (long : length s ≡ groupLength) (used : n ≡ usedOf s) (within : i ≤ n) (room : n < groupLimit)

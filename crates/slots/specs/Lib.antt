@@ -1,4 +1,4 @@
 pub mod Coding
+pub mod Owners
 pub mod View
 pub mod Edits
-pub mod Owners

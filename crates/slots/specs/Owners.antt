@@ -2,6 +2,13 @@
 use mathlib.Core.Bool.{Bool, true, false, not, _&&_}
 use Prim.Native.Nat.{ℕ, suc}
 use lib.Dec.{eqb}
+use Rattle.model.specs.Record as model
+use Rattle.model.specs.Record.{kindOf, isApproximate}
+use Rattle.record.specs.declared.Record.{Record}
+use Rattle.record.specs.declared.Left.{Left}
+use Rattle.record.specs.declared.Left.the-variants.{Kept, Gone}
+use Rattle.record.specs.Read.{asRecord}
+use Rattle.group.specs.Reading.{ownedAs}
 
 -- a where the test holds, otherwise b
 unfoldable pub either : Bool → ℕ → ℕ → ℕ
@@ -17,16 +24,26 @@ unfoldable pub takenBy : ℕ → Bool → ℕ → ℕ
 unfolding either
 takenBy start taken w = either taken (suc start) w
 
--- whoever named `start` names the new start, where the offset is left to it, and otherwise nobody
-unfoldable pub handedOver : ℕ → Bool → ℕ → ℕ → ℕ
-unfolding either
-handedOver start left newStart w = either (ownerIs w start) (either left (suc newStart) 0) w
-
--- whoever named `start` names nobody
-unfoldable pub disowned : ℕ → ℕ → ℕ
-unfolding either
-disowned start w = either (ownerIs w start) 0 w
-
 -- an offset whose owner names `start` stays with it where it isn't taken
 unfoldable pub leftTo : ℕ → Bool → ℕ → Bool
 leftTo start taken w = ownerIs w start && not taken
+
+-- whoever named `start` names nobody, where the offset is taken, and otherwise the new start
+unfoldable pub handedOn : ℕ → Bool → ℕ → ℕ → ℕ
+unfolding either
+handedOn start taken newStart w = either (ownerIs w start) (either taken 0 (suc newStart)) w
+
+-- the start of what is left of a record, if something is
+unfoldable pub startLeft : Left → ℕ
+startLeft (Kept u) = u .start
+startLeft Gone = 0
+
+-- the owner of an offset, when x is left of record r: an approximate record's offsets that are taken name nobody, the
+-- others what is left of it; no other record owns any
+unfoldable pub ownerLeft : Record → Left → Bool → ℕ → ℕ
+unfolding either
+ownerLeft r x taken w = either (isApproximate (kindOf (r .word))) (handedOn (r .start) taken (startLeft x) w) w
+
+-- the record with the offsets that it owns, where w is the owner of each
+abbrev pub owning : (ℕ → ℕ) → Record → model.Record
+owning w r = asRecord r (ownedAs (kindOf (r .word)) w (r .start))

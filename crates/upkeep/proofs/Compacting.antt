@@ -15,10 +15,7 @@ use Rattle.calls.specs.Compaction.{groupChecks, compactChecks, compactGroup, co
 use Rattle.calls.specs.History.{compactCall, lend, lentTo, checksOf, effect}
 use Rattle.calls.proofs.Refusing.{front-refuses, others-decide}
 use Rattle.group.specs.Reading.{readGroup}
-use Rattle.group.specs.Held.{Held}
-use Rattle.group.proofs.Holding.{sound-held}
-use Rattle.insertion.specs.Shown.{Tidy}
-use Rattle.compaction.proofs.Read.{read-tidy}
+use Rattle.compaction.specs.Passing.{Compactable}
 use Rattle.state.specs.Reading.{groupPlace, readState}
 use Rattle.state.specs.Outside.{SameOutside}
 use Rattle.state.specs.Shaped.{Shaped}
@@ -36,26 +33,18 @@ module _ (d : Device) (s : List ℕ) (h : Shaped d (readState s)) (k a e : ℕ) 
   is-group : readGroup part ≡ groupAt (readState s) k
   is-group = lent d s h k a e lt start end .group
 
-  is-sound : soundGroup (d .N) k (readGroup part) ≡ true
-  is-sound = ap (soundGroup (d .N) k) is-group ∙ sound
+  pub part-ready : Compactable part
+  part-ready = record { N = d .N; number = k; size = lent d s h k a e lt start end .size; sound = ap (soundGroup (d .N) k) is-group ∙ sound }
 
-  pub part-tidy : Tidy part
-  part-tidy = read-tidy (d .N) k part is-sound (lent d s h k a e lt start end .size)
-
-  pub part-compacted : (t : List ℕ) → length t ≡ groupLength
-      → ((n j : ℕ) → soundGroup n j (readGroup part) ≡ true → readGroup t ≡ compact (readGroup part))
+  pub part-compacted : (t : List ℕ) → length t ≡ groupLength → readGroup t ≡ compact (readGroup part)
       → readState (take a s ++ (t ++ drop (e - a) (drop a s))) ≡ compactGroup k (readState s)
   unfolding compactGroup
-  part-compacted t size f =
+  part-compacted t size q =
       part-replaced d s h k a e lt start end t (size ∙ sym (lent d s h k a e lt start end .size))
-      ∙ ap (λ (g : Group). withGroups (set (readState s .groups) k g) (readState s)) (f (d .N) k is-sound ∙ ap compact is-group)
+      ∙ ap (λ (g : Group). withGroups (set (readState s .groups) k g) (readState s)) (q ∙ ap compact is-group)
 
-  pub records-left : (t : List ℕ) (r : ℕ)
-      → ((n j : ℕ) (g : Group) → Held part g → soundGroup n j g ≡ true → Held t (compact g) × (r ≡ recordCount (compact g)))
-      → r ≡ recordCount (compact (groupAt (readState s) k))
-  records-left t r f =
-      f (d .N) k (readGroup part) (sound-held (d .N) k part is-sound) is-sound .1
-      ∙ ap (λ (g : Group). recordCount (compact g)) is-group
+  pub records-left : (r : ℕ) → r ≡ recordCount (compact (readGroup part)) → r ≡ recordCount (compact (groupAt (readState s) k))
+  records-left r q = q ∙ ap (λ (g : Group). recordCount (compact g)) is-group
 
 -- bytes that all stay are the same outside any group
 pub stays-outside : (d : Device) (k : ℕ) (b : List ℕ) → SameOutside d k b b

@@ -9,10 +9,10 @@ use Rattle.record.proofs.first.Statement.{statement}
 use Rattle.record.proofs.first.Tie as tie
 
 abbrev Inv-loop : tie.InvT-loop
-Inv-loop mask kept s d e o₀ o = Failed (stays kept mask) s d o
+Inv-loop mask s d e o₀ o = Failed (stays mask) s d o
 
 abbrev μ-loop : tie.MeasureT-loop
-μ-loop mask kept s d e o₀ o = e + 1 - o
+μ-loop mask s d e o₀ o = e + 1 - o
 
 returns : tie.Need-returns Inv-loop μ-loop
 returns c = (c .before .before .before .loop .inv, λ h. sym (c .before .staying .ensures) ∙ c .if1 .taken)

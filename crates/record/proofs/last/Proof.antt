@@ -8,10 +8,10 @@ use Rattle.record.proofs.last.Statement.{statement}
 use Rattle.record.proofs.last.Tie as tie
 
 abbrev Inv-loop : tie.InvT-loop
-Inv-loop mask kept f d e o₀ o = FailedAfter (stays kept mask) f d e o
+Inv-loop mask f d e o₀ o = FailedAfter (stays mask) f d e o
 
 abbrev μ-loop : tie.MeasureT-loop
-μ-loop mask kept f d e o₀ o = o
+μ-loop mask f d e o₀ o = o
 
 returns : tie.Need-returns Inv-loop μ-loop
 returns c = (c .before .before .before .loop .inv, sym (c .before .staying .ensures) ∙ c .if1 .taken)
@@ -25,7 +25,7 @@ loop-again c = down-step _ _ _ _ _ (c .before .before .before .before .before .p
 returns-2 : tie.Need-returns-2 Inv-loop μ-loop
 returns-2 c =
     let e : c .before .loop .o ≡ c .before .before .before .args .f = omega (arith, c .before .loop .inv .low) in
-    (c .before .loop .inv, ap (stays _ _) e ∙ c .before .before .before .pre .5)
+    (c .before .loop .inv, ap (stays _) e ∙ c .before .before .before .pre .5)
 
 pub last-spec : {M : Type 1} → statement M
 last-spec = tie.close (tie.spec Inv-loop μ-loop (λ c. search (down-start, needs)) (λ c κs. search needs) returns sub-o
