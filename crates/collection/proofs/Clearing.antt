@@ -6,9 +6,8 @@ use lib.ListN.{length, getD, set, drop, drop-of-length-le}
 use Rattle.model.specs.Lists.{store}
 use Rattle.model.specs.Device.{Device}
 use Rattle.model.specs.Spare.{erase}
-use Rattle.model.specs.Learning.{Write, logicals}
+use Rattle.model.specs.Learning.{Write}
 use Rattle.model.specs.State.{State, withCounts}
-use Rattle.model.proofs.Sorting.{logicals-length}
 use Rattle.calls.specs.Outcome.{Lent, collected}
 use Rattle.calls.specs.Flush.{writeState, writeBlock}
 use Rattle.calls.specs.Choice.{blocksOf}
@@ -63,20 +62,19 @@ written-shape d s s′ spare spare′ plan plan′ ws h e =
     let q : s′ ≡ moveAll ws (lend s spare plan []) .state = ap (λ (x : Lent). x .state) (e []) in
     rw q (moved-shape d ws (lend s spare plan []) h)
 
--- Moves written, blocks erased and listed: the collection.
-module _ (s s₁ s₂ : State) (spare spare₁ spare₂ plan plan₁ erased erased₁ bs : List ℕ)
+-- Moves written, blocks erased: the collection, whatever the list that the blocks are in front of.
+module _ (s s₁ s₂ : State) (spare spare₁ spare₂ plan plan₁ bs : List ℕ)
     (moved : (erased : List ℕ) → lend s₁ spare₁ plan₁ erased ≡ moveAll (moves s spare) (lend s spare plan erased))
     (taken : bs ≡ blocksOf (victims s spare))
     (cleared : (plan erased : List ℕ) → lend s₂ spare₂ plan erased ≡ eraseBlocks bs (lend s₁ spare₁ plan erased))
-    (listed : erased₁ ≡ store erased 0 bs) where
-  pub collection-left : lend s₂ spare₂ plan₁ erased₁ ≡ collectDone (lend s spare plan erased) .after
+    (erased : List ℕ) where
+  pub collection-left : lend s₂ spare₂ plan₁ (store erased 0 bs) ≡ collectDone (lend s spare plan erased) .after
   unfolding collectDone listErased lend
   collection-left =
-      ap (lend s₂ spare₂ plan₁) listed
-      ∙ ap (listErased bs) (cleared plan₁ erased ∙ ap (eraseBlocks bs) (moved erased))
+      ap (listErased bs) (cleared plan₁ erased ∙ ap (eraseBlocks bs) (moved erased))
       ∙ ap (λ (ks : List ℕ). listErased ks (eraseBlocks ks (moveAll (moves s spare) (lend s spare plan erased)))) taken
 
-  pub collection-answer : (first : ℕ) (ps : List ℕ) → first ≡ firstMoved (moves s spare) s → ps ≡ logicals (moves s spare)
-      → collected first (length ps) (length bs) ≡ collectDone (lend s spare plan erased) .answer
+  pub collection-answer : (first n : ℕ) → first ≡ firstMoved (moves s spare) s → n ≡ length (moves s spare)
+      → collected first n (length bs) ≡ collectDone (lend s spare plan erased) .answer
   unfolding collectDone lend
-  collection-answer first ps e f = rw (e, f, taken, logicals-length (moves s spare))
+  collection-answer first n e f = rw (e, f, taken)

@@ -4,7 +4,7 @@ use mathlib.Core.Path.{_≡_, refl, sym, ap, _∙_}
 use mathlib.Core.List.{List, [], _∷_}
 use mathlib.Core.Logic.{_⊎_, inl, inr}
 use mathlib.Core.Bool.{Bool, true, false, _&&_}
-use Prim.Native.Nat.{ℕ, suc, _+_, _*_, _-_, _≤_, _<_}
+use Prim.Native.Nat.{ℕ, zero, suc, _+_, _*_, _-_, _≤_, _<_}
 use native.Mathlib.Omega.{arith}
 use native.Mathlib.Numerals.{add-one}
 use lib.Dec.{ltb, eqb}
@@ -38,6 +38,16 @@ unfound p (Found f) (inl e) = let z : _≡_ {A = ℕ} 0 1 = e in absurd (omega a
 unfound p (Found f) (inr e) = let z : _≡_ {A = ℕ} 0 2 = e in absurd (omega arith)
 unfound p (NotWritten n) e = refl
 unfound p (Refused r) e = refl
+
+-- no more are picked than there are
+select-few : (t : ℕ → Bool) (n x : ℕ) → length (select t n x) ≤ n
+unfolding select
+select-few t zero x = omega arith
+select-few t (suc n) x = go (t x) refl (select-few t n (suc x))
+  where
+    go : (b : Bool) → t x ≡ b → length (select t n (suc x)) ≤ n → length (select t (suc n) x) ≤ suc n
+    go true e ih = rw (e, select) (omega arith)
+    go false e ih = rw (e, select) (omega arith)
 
 -- block k's valid pages from its page i on
 unfoldable pub validFrom : Device → State → List ℕ → ℕ → ℕ → List ℕ
@@ -80,6 +90,12 @@ module _ (d : Device) (s : State) (spare : List ℕ) (v : Passed d s spare) wher
 
   pub block-fits : (k : ℕ) → k < d .M → k * d .B < 1048576
   block-fits k h = omega (arith, page-fits k 0 h (omega (arith, limits d (v .shape .limits) .least-B)))
+
+  -- A block has no more valid pages than pages.
+  pub valid-few : (k : ℕ) → length (usedBlock s spare k .pages) ≤ 256
+  unfolding usedBy
+  valid-few k =
+      omega (arith, select-few (valid s spare) (s .device .B) (firstPage (s .device) k), ap (λ (e : Device). e .B) (v .shape .numbers), limits d (v .shape .limits) .most-B)
 
   -- From a block's first page on they are all its valid pages, and behind its last page there is none.
   pub valid-first : (k : ℕ) → validFrom d s spare k 0 ≡ usedBlock s spare k .pages

@@ -1,5 +1,6 @@
-// Collection: its refusals before anything is written, then the moves, the erased blocks and their list.
+// Collection: its refusals before anything is written, then the list of the blocks that are taken, the moves and the erased blocks.
 use crate::choose::choose;
+use crate::choose::count_chosen;
 use crate::erasing::erase_blocks;
 use crate::moving::moves;
 use crate::validity::tally_all;
@@ -11,12 +12,11 @@ use state::counts::lowest_free;
 use state::groups::sound;
 use state::opening::Opened;
 use state::opening::open_with_spare;
-use writing::block::store_front;
 use writing::block::write_block;
 ghost use mathlib.Core.Path.{_≡_};
 ghost use mathlib.Core.Bool.{not, _&&_};
 ghost use mathlib.Core.List.{List, []};
-ghost use Prim.Native.Nat.{ℕ, _≤_};
+ghost use Prim.Native.Nat.{ℕ};
 ghost use lib.Dec.{eqb};
 ghost use lib.ListN.{length};
 ghost use Rattle.model.specs.Lists.{store};
@@ -32,6 +32,13 @@ ghost use Rattle.state.specs.Shaped.{Shaped, Passed};
 ghost use Rattle.state.specs.Answers.{collectAnswer};
 ghost use Rattle.state.specs.Opening.{verdict, verdictOf};
 ghost use Rattle.state.specs.Ran.{Ran};
+ghost use Rattle.collection.specs.Taking.{choice, choiceOf, listed};
+
+// How many blocks are taken, or the refusal.
+enum Taken {
+    Blocks(usize),
+    Refused(Refusal),
+}
 
 // The device numbers where document 01's 1, 2 and 3 don't apply, else the refusal.
 fn check(state: &[u8], spare: &[u32], plan: &[u32], erased: &[u32]) -> Opened
@@ -53,18 +60,6 @@ fn check(state: &[u8], spare: &[u32], plan: &[u32], erased: &[u32]) -> Opened
         return Opened::Refused(Refusal::NotSound);
     }
     Opened::Device(d)
-}
-
-// The blocks that are taken, in order; how many there are.
-fn taken(state: &[u8], spare: &[u32], d: Numbers, order: &mut [u32]) -> usize
-    requires { ⌜ Passed (numbersOf d) (readState (now state)) (now spare) × (4096 ≤ length (now order)) ⌝ }
-    ensures count { λ r. ⌜ r ≡ length (victims (readState (now (state .entry))) (now (spare .entry))) ⌝ }
-    ensures blocks { λ _. ⌜ now (order .exit) ≡ store (now (order .entry)) 0 (blocksOf (victims (readState (now (state .entry))) (now (spare .entry)))) ⌝ }
-{
-    let mut tally = [0u32; 4096];
-    let m = d.m as usize;
-    tally_all(state, spare, d, &mut tally);
-    choose(&tally[..m], d.b, order)
 }
 
 // Whether there is nothing to gain from c taken blocks with n valid pages: none is taken, or one with pages to move.
@@ -91,6 +86,28 @@ fn no_block(state: &[u8], d: Numbers, n: usize) -> bool
     free_count(state, d) == 0
 }
 
+// Where 8 or 6 applies, the refusal; else the taken blocks are listed at the front of `erased`. The tally is needed here only.
+fn take_blocks(state: &[u8], spare: &[u32], d: Numbers, erased: &mut [u32]) -> Taken
+    requires { ⌜ Passed (numbersOf d) (readState (now state)) (now spare) × (length (now erased) ≡ d .m) ⌝ }
+    ensures answer { λ r. ⌜ choiceOf r ≡ choice (readState (now (state .entry))) (now (spare .entry)) ⌝ }
+    ensures list { λ _. ⌜ now (erased .exit) ≡ listed (readState (now (state .entry))) (now (spare .entry)) (now (erased .entry)) ⌝ }
+{
+    let mut tally = [0u16; 4096];
+    let m = d.m as usize;
+    tally_all(state, spare, d, &mut tally);
+    let t = count_chosen(&tally[..m], d.b);
+    let c = t.blocks;
+    let n = t.pages;
+    if no_gain(c, n) {
+        return Taken::Refused(Refusal::NothingToGain);
+    }
+    if no_block(state, d, n) {
+        return Taken::Refused(Refusal::NoFreeBlock);
+    }
+    choose(&tally[..m], d.b, erased);
+    Taken::Blocks(c)
+}
+
 // The moves are written to the lowest-numbered free block, if there are any; the first page.
 fn write_moves(
     state: &mut [u8],
@@ -114,28 +131,27 @@ fn write_moves(
     k * d.b
 }
 
-// The moves are written, the taken blocks erased and listed.
+// The valid pages of the taken blocks are moved, and these blocks erased.
 fn carry_out(
     state: &mut [u8],
     spare: &mut [u32],
     plan: &mut [u32],
-    erased: &mut [u32],
     d: Numbers,
-    pages: &[u32],
-    sources: &[u32],
     blocks: &[u32],
 ) -> Collected
-    requires { ⌜ Passed (numbersOf d) (readState (now state)) (now spare) × (length (now plan) ≡ d .b) × (length (now erased) ≡ d .m) ⌝ }
-    requires { ⌜ (now pages ≡ logicals (movesOf (readState (now state)) (now spare))) × (now sources ≡ sourcesOf (movesOf (readState (now state)) (now spare)))
+    requires { ⌜ Passed (numbersOf d) (readState (now state)) (now spare) × (length (now plan) ≡ d .b)
         × (now blocks ≡ blocksOf (victims (readState (now state)) (now spare))) ⌝ }
-    ensures answer { λ r. ⌜ collectAnswer r ≡ collectDone (lend (readState (now (state .entry))) (now (spare .entry)) (now (plan .entry)) (now (erased .entry))) .answer ⌝ }
-    ensures left { λ _. ⌜ lend (readState (now (state .exit))) (now (spare .exit)) (now (plan .exit)) (now (erased .exit))
-        ≡ collectDone (lend (readState (now (state .entry))) (now (spare .entry)) (now (plan .entry)) (now (erased .entry))) .after ⌝ }
+    ensures answer { λ r. ⌜ ((erased : List ℕ) → collectAnswer r
+        ≡ collectDone (lend (readState (now (state .entry))) (now (spare .entry)) (now (plan .entry)) erased) .answer) ⌝ }
+    ensures left { λ _. ⌜ ((erased : List ℕ) → lend (readState (now (state .exit))) (now (spare .exit)) (now (plan .exit)) (store erased 0 (now (blocks .entry)))
+        ≡ collectDone (lend (readState (now (state .entry))) (now (spare .entry)) (now (plan .entry)) erased) .after) ⌝ }
 {
-    let first = write_moves(state, spare, plan, d, pages, sources);
+    let mut pages = [0u32; 256];
+    let mut sources = [0u32; 256];
+    let n = moves(state, spare, d, blocks, &mut pages, &mut sources);
+    let first = write_moves(state, spare, plan, d, &pages[..n], &sources[..n]);
     erase_blocks(state, spare, d, blocks);
-    store_front(erased, blocks);
-    Collected::Done(first, pages.len() as u32, blocks.len() as u32)
+    Collected::Done(first, n as u32, blocks.len() as u32)
 }
 
 // Document 01's collection.
@@ -153,25 +169,10 @@ pub fn collect(
         Opened::Device(d) => d,
         Opened::Refused(r) => return Collected::Refused(r),
     };
-    let mut order = [0u32; 4096];
-    let mut pages = [0u32; 256];
-    let mut sources = [0u32; 256];
-    let c = taken(state, spare, d, &mut order);
-    let n = moves(state, spare, d, &order[..c], &mut pages, &mut sources);
-    if no_gain(c, n) {
-        return Collected::Refused(Refusal::NothingToGain);
-    }
-    if no_block(state, d, n) {
-        return Collected::Refused(Refusal::NoFreeBlock);
-    }
-    carry_out(
-        state,
-        spare,
-        plan,
-        erased,
-        d,
-        &pages[..n],
-        &sources[..n],
-        &order[..c],
-    )
+    let taken = take_blocks(state, spare, d, erased);
+    let c = match taken {
+        Taken::Blocks(c) => c,
+        Taken::Refused(r) => return Collected::Refused(r),
+    };
+    carry_out(state, spare, plan, d, &erased[..c])
 }

@@ -51,18 +51,18 @@ fn valid_pages(state: &[u8], spare: &[u32], d: Numbers, k: u32) -> u32
 }
 
 // Block k's entry in the tally.
-fn tally_block(state: &[u8], spare: &[u32], d: Numbers, k: u32) -> u32
+fn tally_block(state: &[u8], spare: &[u32], d: Numbers, k: u32) -> u16
     requires { ⌜ Passed (numbersOf d) (readState (now state)) (now spare) × (k < d .m) ⌝ }
     ensures { λ r. ⌜ r ≡ tallyAt (readState (now (state .entry))) (now (spare .entry)) k (countOf (readState (now (state .entry))) k) ⌝ }
 {
     if count(state, d, k) == 0 {
         return FREE;
     }
-    valid_pages(state, spare, d, k)
+    valid_pages(state, spare, d, k) as u16
 }
 
 // The tally of all blocks.
-pub fn tally_all(state: &[u8], spare: &[u32], d: Numbers, tally: &mut [u32])
+pub fn tally_all(state: &[u8], spare: &[u32], d: Numbers, tally: &mut [u16])
     requires { ⌜ Passed (numbersOf d) (readState (now state)) (now spare) × (d .m ≤ length (now tally)) ⌝ }
     ensures { λ _. ⌜ now (tally .exit) ≡ store (now (tally .entry)) 0 (tallyOf (readState (now (state .entry))) (now (spare .entry))) ⌝ }
 {

@@ -1,75 +1,115 @@
--- The moves are written, then the blocks are erased, then listed.
+-- The pages are gathered and written, then the blocks are erased.
 use native.Mathlib.Omega.{arith}
-use mathlib.Core.Path.{ap, _∙_}
+use mathlib.Core.Path.{_≡_, sym, ap, _∙_}
 use mathlib.Core.List.{List}
 use Prim.Native.Nat.{ℕ, _≤_}
 use lib.Dec.{ltb}
-use lib.ListN.{length}
+use lib.ListN.{length, take}
+use lib.Seq.{length-take-le}
 use borrow.Author.Needs.{needs}
 use Rattle.model.specs.Lists.{all}
+use Rattle.model.specs.Learning.{Write, logicals, sources}
 use Rattle.model.proofs.Limits.{limits}
+use Rattle.model.proofs.Sorting.{logicals-length, sources-length}
+use Rattle.calls.specs.Collection.{moves}
 use Rattle.state.specs.Reading.{readState}
 use Rattle.state.specs.Answers.{collectAnswer}
 use Rattle.state.proofs.Shaping.{length-counts}
 use Rattle.collection.proofs.Taken.{blocks-in, blocks-few}
-use Rattle.collection.proofs.Moved.{write-ready}
+use Rattle.collection.proofs.Gathering.{front}
+use Rattle.collection.proofs.Moved.{moves-few}
 use Rattle.collection.proofs.Clearing.{written-shape, collection-left, collection-answer}
 use Rattle.collection.proofs.collect.carry_out.Statement.{statement}
 use Rattle.collection.proofs.collect.carry_out.Tie as tie
 
-abbrev after-write-moves : tie.After-erase-blocks-arg2 → tie.After-write-moves
-after-write-moves c = c .before .before .before .before .before .before .before .before
+abbrev start : tie.After-moves → tie.Start
+start c = c .before .before .before .before .before .before .before .before .before
 
-abbrev after-erase-blocks : tie.After-slice-known10 → tie.After-erase-blocks
-after-erase-blocks c = c .before .before .before .before .before .before .before .before
+-- the moves are the front of their arrays
+abbrev moved-at : tie.After-moves → List Write
+moved-at c = moves (readState (start c .args .state .now)) (start c .args .spare .now)
 
-abbrev after-write-moves′ : tie.After-slice-known10 → tie.After-write-moves
-after-write-moves′ c = after-erase-blocks c .before .before .before .before .before .before .before .before .before
+few : (c : tie.After-moves) → length (moved-at c) ≤ 256
+few c = moves-few _ _ _ (start c .pre .0)
 
-abbrev start′ : tie.After-erase-blocks-arg2 → tie.Start
-start′ c = after-write-moves c .before .before .before .before .before .before .before .before .before .before .before
+moved : (c : tie.After-moves) → c .moves .result ≡ length (moved-at c)
+moved c = c .moves .ensures .0
 
-abbrev start : tie.After-store-front-arg → tie.Start
-start c = c .before .before .before .before .before .before .before .before .before .before .before .before .before .before .before .before .before .before .before .before .before .before .before .before .before
+pages-long : (c : tie.After-moves) → length (c .moves .last .1 .1 .1 .1 .0) ≡ 256
+pages-long c = c .moves .kept .1 .1 .1 .1 .0
+
+sources-long : (c : tie.After-moves) → length (c .moves .last .1 .1 .1 .1 .1 .0) ≡ 256
+sources-long c = c .moves .kept .1 .1 .1 .1 .1 .0
+
+named : (c : tie.After-moves) → take (c .moves .result) (c .moves .last .1 .1 .1 .1 .0) ≡ logicals (moved-at c)
+named c =
+    let size = logicals-length (moved-at c) in
+    front _ _ _ _ (c .moves .ensures .1 .0) (moved c ∙ sym size) (omega (arith, size, few c))
+
+from : (c : tie.After-moves) → take (c .moves .result) (c .moves .last .1 .1 .1 .1 .1 .0) ≡ sources (moved-at c)
+from c =
+    let size = sources-length (moved-at c) in
+    front _ _ _ _ (c .moves .ensures .1 .1) (moved c ∙ sym size) (omega (arith, size, few c))
+
+-- no more blocks are taken than there are
+few-blocks : (c : tie.Start) → length (c .args .blocks .now) ≤ c .args .d .m
+few-blocks c =
+    let shape = c .pre .0 .shape in
+    omega (arith, ap (λ (l : List ℕ). length l) (c .pre .2), blocks-few (readState (c .args .state .now)) (c .args .spare .now) _ (shape .numbers) (shape .limits) (length-counts _ _ shape))
+
+-- the places where the moves are known and written, from behind the erased blocks
+abbrev at-write : tie.After-slice-known8 → tie.After-write-moves
+at-write c = c .before .before .before .before .before .before .before .before .before .before .before .before .before
+
+abbrev at-moves : tie.After-write-moves → tie.After-moves
+at-moves c = c .before .before .before .before .before .before .before .before
+
+array-share-prefix-pages : tie.Need-array-share-prefix-pages
+array-share-prefix-pages c = let k = c .before .before .before .before .before in omega (arith, moved k, few k, pages-long k)
+
+slice-aggregate-write-moves : tie.Need-slice-aggregate-write-moves
+slice-aggregate-write-moves c = let k = c .before .before .before .before .before .before in sym (length-take-le _ (k .moves .last .1 .1 .1 .1 .0) (omega (arith, moved k, few k, pages-long k)))
+
+array-share-prefix-sources : tie.Need-array-share-prefix-sources
+array-share-prefix-sources c = let k = c .before .before .before .before .before .before in omega (arith, moved k, few k, sources-long k)
+
+slice-aggregate-write-moves-2 : tie.Need-slice-aggregate-write-moves-2
+slice-aggregate-write-moves-2 c = let k = c .before .before .before .before .before .before .before in sym (length-take-le _ (k .moves .last .1 .1 .1 .1 .1 .0) (omega (arith, moved k, few k, sources-long k)))
+
+write-moves-requires : tie.Need-write-moves-requires
+write-moves-requires c κs =
+    let k = c .before .before .before .before .before .before .before in
+    ((start k .pre .0, start k .pre .1), (named k, from k))
 
 erase-blocks-requires : tie.Need-erase-blocks-requires
 erase-blocks-requires c κs =
-    let pre = start′ c .pre in
-    let shape = pre .0 .0 .shape in
-    let made = after-write-moves c .write-moves in (
-      written-shape _ _ _ _ _ _ _ _ shape (made .ensures .1),
-      made .kept .1 .0 ∙ pre .0 .0 .fits,
-      ap (all (λ k. ltb k (start′ c .args .d .m))) (pre .1 .2) ∙ blocks-in _ _ _ (shape .numbers) (shape .limits) (length-counts _ _ shape),
+    let w = c .before .before .before .before .before .before .before .before in
+    let begin = start (at-moves w) in
+    let shape = begin .pre .0 .shape in (
+      written-shape _ _ _ _ _ _ _ _ shape (w .write-moves .ensures .1),
+      w .write-moves .kept .1 .0 ∙ begin .pre .0 .fits,
+      ap (all (λ k. ltb k (begin .args .d .m))) (begin .pre .2) ∙ blocks-in _ _ _ (shape .numbers) (shape .limits) (length-counts _ _ shape),
     )
 
--- no more blocks are taken than there are
-few : (c : tie.Start) → length (c .args .blocks .now) ≤ c .args .d .m
-few c =
-    let shape = c .pre .0 .0 .shape in
-    omega (arith, ap (λ (l : List ℕ). length l) (c .pre .1 .2), blocks-few (readState (c .args .state .now)) (c .args .spare .now) _ (shape .numbers) (shape .limits) (length-counts _ _ shape))
+cast-t33 : tie.Need-cast-t33
+cast-t33 c = let k = at-moves (at-write c) in omega (arith, moved k, few k)
 
-store-front-requires : tie.Need-store-front-requires
-store-front-requires c κs = omega (arith, few (start c), start c .pre .0 .2)
-
-cast-t24 : tie.Need-cast-t24
-cast-t24 c =
-    let pre = start (c .before .before .before) .pre in
-    omega (arith, write-ready _ _ _ (pre .0 .0) _ _ (pre .1 .0) (pre .1 .1) .2, limits _ (pre .0 .0 .shape .limits) .most-B)
-
-cast-t26 : tie.Need-cast-t26
-cast-t26 c = omega (arith, few (start (c .before .before .before)), limits _ (start (c .before .before .before) .pre .0 .0 .shape .limits) .most-M)
+cast-t35 : tie.Need-cast-t35
+cast-t35 c = let begin = start (at-moves (at-write c)) in omega (arith, few-blocks begin, limits _ (begin .pre .0 .shape .limits) .most-M)
 
 returns : tie.Need-returns
 unfolding collectAnswer
 returns c =
-    let pre = start (c .before .before .before) .pre in
-    let moved = after-write-moves′ c .write-moves .ensures in
-    let cleared = after-erase-blocks c .erase-blocks .ensures in
-    let listed = c .before .before .store-front .ensures in (
-      collection-answer _ _ _ _ _ _ _ _ _ _ _ (moved .1) (pre .1 .2) cleared listed _ _ (moved .0) (pre .1 .0),
-      collection-left _ _ _ _ _ _ _ _ _ _ _ (moved .1) (pre .1 .2) cleared listed,
+    let w = at-write c in
+    let k = at-moves w in
+    let taken = start k .pre .2 in
+    let written = w .write-moves .ensures in
+    let cleared = c .before .before .before .before .erase-blocks .ensures in (
+      λ erased. collection-answer _ _ _ _ _ _ _ _ _ (written .1) taken cleared erased _ _ (written .0) (moved k),
+      λ erased. collection-left _ _ _ _ _ _ _ _ _ (written .1) taken cleared erased,
     )
 
 pub carry-out-spec : {M : Type 1} → statement M
-carry-out-spec = tie.close (tie.spec (λ c κs. search needs) erase-blocks-requires store-front-requires cast-t24 cast-t26
-    (λ c. search needs) (λ c. search needs) (λ c. search needs) (λ c. search needs) returns)
+carry-out-spec = tie.close (tie.spec (λ c. search needs) (λ c. search needs) (λ c κs. search needs) array-share-prefix-pages
+    slice-aggregate-write-moves array-share-prefix-sources slice-aggregate-write-moves-2 write-moves-requires
+    erase-blocks-requires cast-t33 cast-t35 (λ c. search needs) (λ c. search needs) (λ c. search needs) returns)

@@ -1,6 +1,6 @@
 -- No block is needed, or the number of free ones decides.
 use borrow.Author.Needs.{needs}
-use Rattle.collection.proofs.Ending.{block-unneeded, block-needed}
+use Rattle.collection.proofs.Deciding.{block-unneeded, block-needed}
 use Rattle.collection.proofs.collect.no_block.Statement.{statement}
 use Rattle.collection.proofs.collect.no_block.Tie as tie
 
