@@ -5,7 +5,7 @@ use mathlib.Core.Option.{Option, none, some}
 use mathlib.Core.Bool.{Bool, true, false, cond, false≢true}
 use Prim.Native.Nat.{ℕ, _-_, _%_, _≤_, _<_}
 use native.Mathlib.Omega.{arith}
-use borrow.Author.Tests.{leb-true, eqb-true, le-leb, lt-leb, eq-eqb, ne-eqb}
+use borrow.Author.Tests.{leb-true, eqb-true, eqb-false, le-leb, lt-leb, eq-eqb, ne-eqb}
 use lib.Dec.{eqb}
 use lib.ListN.{length}
 use Rattle.model.specs.Lists.{store}
@@ -100,6 +100,22 @@ takes-few op n h =
     few : (t : Bool) {a b : Bool} → (a ≡ true → n ≤ 64) → (b ≡ true → n ≤ 64) → cond t a b ≡ true → n ≤ 64
     few true f g = f
     few false f g = g
+
+-- a line that is longer than 64 numbers behind an operation is bad
+pub long-bad : (l : List ℕ) → 514 < length l → lineOf l ≡ bad
+long-bad l h = go (eqb ((length l - 2) % 8) 0) refl
+  where
+    many : (op : ℕ) (t : Bool) → takes op (fieldCount l) ≡ t → 64 < fieldCount l → takes op (fieldCount l) ≡ false
+    many op true e k = absurd (omega (arith, takes-few op (fieldCount l) e))
+    many op false e k = e
+
+    decide : (o : Option ℕ) → operationIn l ≡ o → (length l - 2) % 8 ≡ 0 → lineOf l ≡ bad
+    decide none e w = no-operation l (omega arith) w e
+    decide (some op) e w = other-count l (omega arith) w op e (many op (takes op (fieldCount l)) refl (omega arith))
+
+    go : (t : Bool) → eqb ((length l - 2) % 8) 0 ≡ t → lineOf l ≡ bad
+    go true e = decide (operationIn l) refl (eqb-true _ _ e)
+    go false e = part-field l (omega arith) (eqb-false _ _ e)
 
 -- what a reading answers and stores
 module _ (l s : List ℕ) where

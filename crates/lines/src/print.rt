@@ -79,12 +79,12 @@ fn put_integer(out: &mut [u8], at: usize, width: usize, z: i32) -> usize
     put_number(out, at, width, true, n)
 }
 
-// A record's line.
-pub fn lay_record(out: &mut [u8], level: u32, r: Record) -> usize
-    requires { ⌜ 56 ≤ length (now out) ⌝ }
-    ensures { λ n. ⌜ Laid (now (out .entry)) (now (out .exit)) 0 n (lineFor level r) ⌝ }
+// A record's line, of at most 56 characters.
+pub fn lay_record(out: &mut [u8], at: usize, level: u32, r: Record) -> usize
+    requires { ⌜ at + 56 ≤ length (now out) ⌝ }
+    ensures { λ n. ⌜ Laid (now (out .entry)) (now (out .exit)) at n (lineFor level r) × (n ≤ at + 56) ⌝ }
 {
-    let a = put_number(out, 0, 6, false, level);
+    let a = put_number(out, at, 6, false, level);
     let b = put_number(out, a, 6, false, r.start);
     let c = put_number(out, b, 6, false, r.span);
     let d = put_number(out, c, 6, false, r.word);

@@ -1,3 +1,11 @@
 pub mod Room
 pub mod Parts
+pub mod Keeping
+pub mod Numbers
+pub mod Each
+pub mod Signed
+pub mod Replies
 pub mod Listed
+pub mod Bytes
+pub mod Transcript
+pub mod Examples

@@ -1,5 +1,5 @@
 -- A device that is taken lies inside the program's memory. Assumes nothing.
-use mathlib.Core.Path.{_≡_}
+use mathlib.Core.Path.{_≡_, sym, ap}
 use mathlib.Core.List.{List}
 use mathlib.Core.Bool.{true, false, _&&_}
 use Prim.Native.Nat.{ℕ, _+_, _*_, _≤_, _<_}
@@ -7,12 +7,21 @@ use native.Mathlib.Omega.{arith}
 use native.Mathlib.Nat.{mul-le-mul-left}
 use borrow.Author.Tests.{leb-true, le-leb, lt-leb}
 use lib.Dec.{leb}
-use lib.ListN.{length}
+use lib.ListN.{length, take}
 use Rattle.model.specs.Device.{Device, withinLimits, groupCount, entriesPerPage, namesPerPage, entriesPerBlock, spareLength, headLength, countLength, groupLength, regions, regionsLength, stateLength}
 use Rattle.model.proofs.Bools.{and-l, and-r}
 use Rattle.model.proofs.Limits.{Limits, limits}
-use Rattle.listing.specs.Memory.{takesDevice, InMemory, heldBy}
-use Rattle.listing.specs.Sizes.{blockRoom, pageRoom, spareRoom, stateRoom}
+use Rattle.state.specs.Reading.{readState}
+use Rattle.listing.specs.Session.{takesDevice}
+use Rattle.listing.specs.Memory.{InMemory, heldBy}
+use Rattle.listing.specs.Sizes.{blockRoom, pageRoom, planRoom, spareRoom, stateRoom}
+
+-- The lengths that a device uses lie inside.
+pub record Inside (d : Device) : Type 0 where
+  pub state : stateLength d ≤ stateRoom
+  pub spare : spareLength d ≤ spareRoom
+  pub blocks : d .M ≤ blockRoom
+  pub pages : d .B ≤ planRoom
 
 module _ (d : Device) where
   -- a device outside the limits is not taken
@@ -63,16 +72,25 @@ module _ (d : Device) where
   unfolding stateLength regionsLength regions headLength countLength groupLength
   state-room h k = omega arith
 
-  -- its lengths lie inside
-  pub room : (state spare : List ℕ) → takesDevice d ≡ true → length state ≡ stateRoom → length spare ≡ spareRoom → InMemory (heldBy d) state spare
-  room state spare t e f =
+  -- those of a device that is taken do
+  pub inside : takesDevice d ≡ true → Inside d
+  inside t =
       let l : Limits d = limits d (taken-within t) in
       let blocks : d .M ≤ blockRoom = omega (arith, four-entries l, taken-entries t) in
+      record { state = state-room blocks (few-groups (taken-pages t)); spare = taken-entries t; blocks = blocks; pages = l .most-B }
+
+  -- and the memory that holds it is ready
+  pub room : (state spare : List ℕ) → takesDevice d ≡ true → length state ≡ stateRoom → length spare ≡ spareRoom
+      → readState (take (stateLength d) state) .device ≡ d → InMemory (heldBy d) state spare
+  room state spare t e f q =
+      let i : Inside d = inside t in
       record {
         bytes = e;
         entries = f;
-        stateUsed = state-room blocks (few-groups (taken-pages t));
-        spareUsed = taken-entries t;
-        blocksUsed = blocks;
-        pagesUsed = l .most-B;
+        stateUsed = i .state;
+        spareUsed = i .spare;
+        blocksUsed = i .blocks;
+        pagesUsed = i .pages;
+        blocksRead = sym (ap (λ (x : Device). x .M) q);
+        pagesRead = sym (ap (λ (x : Device). x .B) q);
       }

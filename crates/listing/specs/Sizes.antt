@@ -22,3 +22,7 @@ stateRoom = 26656
 -- the largest block has 256 pages
 abbrev pub planRoom : ℕ
 planRoom = 256
+
+-- what one line prints: at most a head line of 35 characters and 512 records' lines of at most 56
+abbrev pub replyRoom : ℕ
+replyRoom = 28707

@@ -16,13 +16,14 @@ use upkeep::format::format;
 ghost use mathlib.Core.Path.{_≡_};
 ghost use mathlib.Core.List.{List};
 ghost use Prim.Native.Nat.{ℕ, _≤_};
-ghost use lib.ListN.{length, replicate};
+ghost use lib.ListN.{length, getD, replicate};
 ghost use Rattle.calls.specs.Outcome.{number as numberOf};
 ghost use Rattle.calls.specs.History.{formatCall, flushCall, lookupCall, collectCall, compactCall};
 ghost use Rattle.spare.specs.Read.{numbersOf};
 ghost use Rattle.state.specs.Answers.{formatAnswer, flushAnswer, lookupAnswer, collectAnswer, compactAnswer};
 ghost use Rattle.listing.specs.Sizes.{stateRoom, spareRoom, blockRoom, planRoom};
-ghost use Rattle.listing.specs.Memory.{takesDevice, InMemory, Obeyed, callOf, Takes};
+ghost use Rattle.listing.specs.Session.{takesDevice, callOf};
+ghost use Rattle.listing.specs.Memory.{inUse, InMemory, Obeyed, Takes};
 
 // The memory: bytes of state, spare entries, and the blocks, pages of a block and logical pages that they allow.
 pub const STATE: usize = 26656;
@@ -152,7 +153,8 @@ fn compact_group(state: &mut [u8], held: Held, group: u32) -> u32
     compacted(compact(&mut state[..s], group))
 }
 
-// Obeys a call other than a format and a listing: 2 flush, 3 lookup, 4 collection, 5 compaction.
+// Obeys a call other than a format and a listing, with its numbers and the first of them (0 where it has none): 2 flush, 3 lookup,
+// 4 collection, 5 compaction.
 pub fn call(
     op: u32,
     numbers: &[u32],
@@ -161,8 +163,8 @@ pub fn call(
     spare: &mut [u32],
     held: Held,
 ) -> u32
-    requires { ⌜ InMemory held (now state) (now spare) ⌝ }
-    ensures { λ r. ⌜ Obeyed (callOf op (now (numbers .entry)) first held) (held .state) (held .spare)
+    requires { ⌜ InMemory held (now state) (now spare) × (first ≡ getD (now numbers) 0 0) ⌝ }
+    ensures { λ r. ⌜ Obeyed (callOf op (now (numbers .entry)) (inUse held (now (state .entry)) (now (spare .entry)))) (held .state) (held .spare)
         (now (state .entry)) (now (spare .entry)) r (now (state .exit)) (now (spare .exit)) ⌝ }
 {
     match op {

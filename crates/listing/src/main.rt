@@ -6,10 +6,11 @@ mod show;
 use lent::SPARE;
 use lent::STATE;
 use session::LINE;
+use session::REPLY;
 use session::run;
 ghost use mathlib.Core.Path.{_≡_};
 ghost use lib.ListN.{length};
-ghost use Rattle.listing.specs.Sizes.{lineRoom, stateRoom, spareRoom};
+ghost use Rattle.listing.specs.Sizes.{lineRoom, stateRoom, spareRoom, replyRoom};
 
 // The bytes of a line that are kept.
 fn line_buffer() -> [u8; LINE]
@@ -32,10 +33,18 @@ fn spare_buffer() -> [u32; SPARE]
     [0; SPARE]
 }
 
+// What one line prints.
+fn reply_buffer() -> [u8; REPLY]
+    ensures { λ r. ⌜ replyRoom ≡ length r ⌝ }
+{
+    [0; REPLY]
+}
+
 fn main() {
     let mut input = io::large_buffer();
     let mut line = line_buffer();
     let mut state = state_buffer();
     let mut spare = spare_buffer();
-    run(&mut input, &mut line, &mut state, &mut spare);
+    let mut out = reply_buffer();
+    run(&mut input, &mut line, &mut state, &mut spare, &mut out);
 }

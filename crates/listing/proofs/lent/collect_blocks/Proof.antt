@@ -5,7 +5,7 @@ use mathlib.Core.List.{List}
 use Prim.Native.Nat.{ℕ}
 use lib.ListN.{length, take, replicate, length-replicate}
 use Rattle.calls.specs.History.{collectCall}
-use Rattle.listing.proofs.Parts.{front-length, front-back, front-zeros, obeyed-as, obeyed}
+use Rattle.listing.proofs.Parts.{front-length, front-back, rest-back, front-zeros, obeyed-as, obeyed}
 use borrow.Author.Needs.{needs}
 use Rattle.listing.proofs.lent.collect_blocks.Statement.{statement}
 use Rattle.listing.proofs.lent.collect_blocks.Tie as tie
@@ -30,7 +30,11 @@ returns c =
     let erased = ap (take (start .args .held .blocks)) (c .before .before .before .before .before .before .before .before .before .before .before .before .erased-buffer .ensures) ∙ front-zeros _ _ (start .pre .blocksUsed) in
     let collect = c .before .before .before .before .before .before .before .collect in
     obeyed-as (ap (λ (l : List ℕ). collectCall l (take (start .args .held .blocks) (c .before .before .before .before .before .before .before .before .before .before .before .before .erased-buffer .result))) plan ∙ ap (λ (l : List ℕ). collectCall (replicate (start .args .held .pages) 0) l) erased)
-    (obeyed (collect .ensures) (c .collected .ensures) (front-back (start .args .held .state) (start .args .state .now) _ (omega arith) (collect .kept .0)) (front-back (start .args .held .spare) (start .args .spare .now) _ (omega arith) (collect .kept .1 .0)))
+    (obeyed (collect .ensures) (c .collected .ensures)
+    (front-back (start .args .held .state) (start .args .state .now) _ (omega arith) (collect .kept .0))
+    (front-back (start .args .held .spare) (start .args .spare .now) _ (omega arith) (collect .kept .1 .0))
+    (rest-back (start .args .held .state) (start .args .state .now) (collect .last .0) (omega arith) (collect .kept .0))
+    (rest-back (start .args .held .spare) (start .args .spare .now) (collect .last .1 .0) (omega arith) (collect .kept .1 .0)))
 
 pub collect-blocks-spec : {M : Type 1} → statement M
 collect-blocks-spec = tie.close (tie.spec (λ c κs. search needs) (λ c κs. search needs) (λ c. search needs)

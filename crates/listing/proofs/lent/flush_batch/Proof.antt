@@ -4,7 +4,7 @@ use mathlib.Core.Path.{ap, _∙_}
 use Prim.Native.Nat.{ℕ}
 use lib.ListN.{length, take, length-replicate}
 use Rattle.calls.specs.History.{flushCall}
-use Rattle.listing.proofs.Parts.{front-length, front-back, front-zeros, obeyed-as, obeyed}
+use Rattle.listing.proofs.Parts.{front-length, front-back, rest-back, front-zeros, obeyed-as, obeyed}
 use borrow.Author.Needs.{needs}
 use Rattle.listing.proofs.lent.flush_batch.Statement.{statement}
 use Rattle.listing.proofs.lent.flush_batch.Tie as tie
@@ -24,7 +24,11 @@ returns c =
     let plan = ap (take (start .args .held .pages)) (c .before .before .before .before .before .before .before .before .before .before .plan-buffer .ensures) ∙ front-zeros _ _ (start .pre .pagesUsed) in
     let flush = c .before .before .before .before .before .before .flush in
     obeyed-as (ap (flushCall (start .args .batch .now)) plan)
-    (obeyed (flush .ensures) (c .flushed .ensures) (front-back (start .args .held .state) (start .args .state .now) _ (omega arith) (flush .kept .0)) (front-back (start .args .held .spare) (start .args .spare .now) _ (omega arith) (flush .kept .1 .0)))
+    (obeyed (flush .ensures) (c .flushed .ensures)
+    (front-back (start .args .held .state) (start .args .state .now) _ (omega arith) (flush .kept .0))
+    (front-back (start .args .held .spare) (start .args .spare .now) _ (omega arith) (flush .kept .1 .0))
+    (rest-back (start .args .held .state) (start .args .state .now) (flush .last .0) (omega arith) (flush .kept .0))
+    (rest-back (start .args .held .spare) (start .args .spare .now) (flush .last .1 .0) (omega arith) (flush .kept .1 .0)))
 
 pub flush-batch-spec : {M : Type 1} → statement M
 flush-batch-spec = tie.close (tie.spec (λ c κs. search needs) (λ c. search needs) slice-aggregate-flush

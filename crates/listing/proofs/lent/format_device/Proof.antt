@@ -4,8 +4,8 @@ use mathlib.Core.Path.{_≡_, refl, sym, _∙_}
 use mathlib.Core.Bool.{true}
 use borrow.Author.Tests.{not-true, not-false}
 use Rattle.spare.specs.Read.{numbersOf}
-use Rattle.listing.specs.Memory.{takesDevice}
-use Rattle.listing.proofs.Room.{taken-within, room}
+use Rattle.listing.specs.Session.{takesDevice}
+use Rattle.listing.proofs.Room.{taken-within, inside}
 use Rattle.listing.proofs.Parts.{takes-device}
 use borrow.Author.Needs.{needs}
 use Rattle.listing.proofs.lent.format_device.Statement.{statement}
@@ -26,8 +26,8 @@ spare-len-requires c κs = taken-within _ (held (c .before))
 format-parts-requires : tie.Need-format-parts-requires
 format-parts-requires c κs =
     let start = c .before .before .before .before .before .before .before .before in
-    let inside = room (numbersOf (start .args .d)) (start .args .state .now) (start .args .spare .now) (held (c .before .before .before .before)) (start .pre .0) (start .pre .1) in
-    (omega (arith, inside .stateUsed, c .before .before .before .state-len .ensures), omega (arith, inside .spareUsed, c .before .before .spare-len .ensures))
+    let i = inside (numbersOf (start .args .d)) (held (c .before .before .before .before)) in
+    (omega (arith, i .state, c .before .before .before .state-len .ensures), omega (arith, i .spare, c .before .before .spare-len .ensures))
 
 returns-2 : tie.Need-returns-2
 returns-2 c =

@@ -13,7 +13,7 @@ slice-aggregate-lookup-2 : tie.Need-slice-aggregate-lookup-2
 slice-aggregate-lookup-2 c = front-length _ (c .before .before .before .before .args .spare .now) (omega arith)
 
 returns : tie.Need-returns
-returns c = obeyed (c .before .lookup .ensures) (c .looked-up .ensures) refl refl
+returns c = obeyed (c .before .lookup .ensures) (c .looked-up .ensures) refl refl refl refl
 
 pub look-up-spec : {M : Type 1} → statement M
 look-up-spec = tie.close (tie.spec slice-aggregate-lookup slice-aggregate-lookup-2 (λ c κs. search needs)

@@ -11,7 +11,8 @@ returns : tie.Need-returns
 returns c =
     let r = c .before .before .before .before .before .decode in
     let level = c .before .before .before .before .get-u16 in
-    laid-as (ap (λ (n : ℕ). lineFor n (r .result)) (level .ensures .0) ∙ ap (lineFor _) (r .ensures .0)) (c .before .before .lay-record .ensures)
+    let laid = c .before .before .lay-record .ensures in
+    (laid-as (ap (λ (n : ℕ). lineFor n (r .result)) (level .ensures .0) ∙ ap (lineFor _) (r .ensures .0)) (laid .0), laid .1)
 
 pub lay-listed-spec : {M : Type 1} → statement M
 lay-listed-spec = tie.close (tie.spec (λ c. search needs) (λ c κs. search needs) (λ c. search needs)
