@@ -1,4 +1,5 @@
 // Flush: a batch goes to the lowest-numbered free block.
+use sorting::order::all_below;
 use sorting::sort::sort_batch;
 use spare::Numbers;
 use state::answers::Flushed;
@@ -39,20 +40,6 @@ fn wrong_size(batch: &[u32], b: u32) -> bool
     (b as usize) < batch.len()
 }
 
-// Whether every logical page is below n: "4, a logical page is N or more".
-fn in_range(batch: &[u32], n: u32) -> bool
-    ensures { λ r. ⌜ r ≡ all (λ x. ltb x n) (now (batch .entry)) ⌝ }
-{
-    let mut i = 0;
-    while i < batch.len() {
-        if n <= batch[i] {
-            return false;
-        }
-        i += 1;
-    }
-    true
-}
-
 // The device numbers where the flush is not refused, else its refusal: 1, 2, 3, 5, 4, 6, the first that applies.
 fn check(state: &[u8], spare: &[u32], batch: &[u32], plan: &[u32]) -> Opened
     ensures { λ r. ⌜ verdictOf r ≡ verdict (flushChecks (now (batch .entry))
@@ -72,7 +59,7 @@ fn check(state: &[u8], spare: &[u32], batch: &[u32], plan: &[u32]) -> Opened
     if wrong_size(batch, d.b) {
         return Opened::Refused(Refusal::BadBatch);
     }
-    if !in_range(batch, d.n) {
+    if !all_below(batch, d.n) {
         return Opened::Refused(Refusal::OutOfRange);
     }
     if free_count(state, d) < 2 {

@@ -1,5 +1,5 @@
 // The calls that only read: lookup, agreement, a group's listing.
 pub mod agree;
-pub mod alike;
+mod alike;
 pub mod list;
 pub mod lookup;

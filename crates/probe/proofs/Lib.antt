@@ -1,4 +1,5 @@
 pub mod Bytes
+pub mod Batches
 pub mod Conditions
 pub mod Marks
 pub mod Insertion

@@ -1,2 +1,3 @@
 pub mod Encoded
 pub mod Groups
+pub mod Batches

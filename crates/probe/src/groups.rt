@@ -1,4 +1,5 @@
 // The functions on one group's bytes. Each checks its condition itself; where that isn't met it answers u64::MAX and changes nothing.
+use crate::OUTSIDE;
 use group::Hit;
 use record::Record;
 ghost use mathlib.Core.Path.{_≡_};
@@ -10,8 +11,6 @@ ghost use Rattle.group.specs.Layout.{offsets};
 ghost use Rattle.group.specs.Reading.{everyFrom};
 ghost use Rattle.group.specs.Checking.{approx, shaped};
 ghost use Rattle.probe.specs.Groups.{soundness, isSound, finding, Compacts, marked, endsMarked, fitting, hasRoom, insertable, Inserts};
-
-const OUTSIDE: u64 = 18446744073709551615;
 
 // The places of a search's values.
 const BIT16: u64 = 65536;

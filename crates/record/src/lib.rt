@@ -88,7 +88,7 @@ impl Record {
     }
 
     // The predicted page at offset o; below zero where no page is.
-    pub fn predict(self, o: u32) -> i64
+    fn predict(self, o: u32) -> i64
         requires { ⌜ (self .word ≤ 513) × (o < 256) ⌝ }
         ensures { λ r. ⌜ ((L : List ℕ) → r ≡ predict (asRecord self L) o) ⌝ }
     {

@@ -1,5 +1,6 @@
 pub mod Ones
 pub mod SortStores
+pub mod Below
 pub mod SortBy
 pub mod SortLink
 pub mod SortBatch

@@ -1,4 +1,4 @@
 // A batch: its writes sorted, repeated logical pages kept once.
 mod digits;
-mod order;
+pub mod order;
 pub mod sort;

@@ -74,7 +74,7 @@ pub fn lowest_free(state: &[u8], d: Numbers) -> u32
 }
 
 // Whether no count exceeds B.
-pub fn counts_sound(state: &[u8], d: Numbers) -> bool
+pub(crate) fn counts_sound(state: &[u8], d: Numbers) -> bool
     requires { ⌜ Shaped (numbersOf d) (readState (now state)) ⌝ }
     ensures { λ r. ⌜ r ≡ all (λ c. leb c (d .b)) (readState (now (state .entry)) .counts) ⌝ }
 {

@@ -30,7 +30,7 @@ pub fn group_sound(state: &[u8], d: Numbers, k: u32) -> bool
 }
 
 // Where offset o is found in group k, which is sound.
-pub fn find(state: &[u8], d: Numbers, k: u32, o: u32) -> Hit
+pub(crate) fn find(state: &[u8], d: Numbers, k: u32, o: u32) -> Hit
     requires { ⌜ Shaped (numbersOf d) (readState (now state)) × (k < groupCount (numbersOf d))
         × (soundGroup (d .n) k (groupAt (readState (now state)) k) ≡ true) × (o < 256) ⌝ }
     ensures { λ r. ⌜ (foundOf r ≡ Option·map bare (holder o (listing (groupAt (readState (now (state .entry))) k))))

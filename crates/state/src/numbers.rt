@@ -61,7 +61,7 @@ pub fn group_count(d: Numbers) -> u32
 }
 
 // The place of block k's count.
-pub fn count_place(k: u32) -> usize
+pub(crate) fn count_place(k: u32) -> usize
     requires { ⌜ k ≤ 4096 ⌝ }
     ensures { λ r. ⌜ ((d : Device) → r ≡ countPlace d k) ⌝ }
 {

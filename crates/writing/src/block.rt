@@ -18,7 +18,7 @@ ghost use Rattle.state.specs.Reading.{readState};
 ghost use Rattle.state.specs.Shaped.{Shaped};
 
 // The list gets the values, from its start on; later entries stay.
-pub fn store_front(list: &mut [u32], values: &[u32])
+fn store_front(list: &mut [u32], values: &[u32])
     requires { ⌜ length (now values) ≤ length (now list) ⌝ }
     ensures { λ _. ⌜ now (list .exit) ≡ store (now (list .entry)) 0 (now (values .entry)) ⌝ }
 {

@@ -147,7 +147,7 @@ fn take_in_runs(
 }
 
 // Each group takes in its own of the records that are learned from a sorted batch, which lies on consecutive pages from `first` on.
-pub fn take_in_all(state: &mut [u8], d: Numbers, written: &[u32], first: u32)
+fn take_in_all(state: &mut [u8], d: Numbers, written: &[u32], first: u32)
     requires { ⌜ Shaped (numbersOf d) (readState (now state)) × (soundGroups (d .n) 0 (readState (now state) .groups) ≡ true) ⌝ }
     requires { ⌜ (ascending (now written) ≡ true) × (all (λ x. ltb x (d .n)) (now written) ≡ true) × (length (now written) ≤ 256)
         × (first + length (now written) ≤ 2097152) ⌝ }

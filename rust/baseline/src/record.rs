@@ -3,6 +3,7 @@
 use hedjosur_layout::RECORD_BYTES;
 
 use crate::offsets::Offsets;
+use crate::words::allows;
 
 /// A record; the offsets that an approximate one owns are kept by its group.
 #[derive(Clone, Copy, Debug, Default, PartialEq, Eq)]
@@ -57,6 +58,29 @@ impl Record {
             0 => Offsets::range(self.start, self.start),
             _ => Offsets::strided(self.start, self.last(), (self.word / 2) as u8),
         }
+    }
+
+    /// The members that a mask of a byte for each offset has, 1 for a member and 0 for
+    /// any other, if a sound group may hold the record with them. An approximate
+    /// record's are any between its first and its last.
+    pub fn members_by(self, mask: &[u8; 256]) -> Option<Offsets> {
+        let (parts, _) = mask.as_chunks::<8>();
+        let mut words = [0; 4];
+        let mut bytes = 0;
+        for (at, &part) in parts.iter().enumerate() {
+            let part = u64::from_le_bytes(part);
+            bytes |= part;
+            // Eight bytes that are 0 or 1 become eight bits.
+            words[at / 8] |= part.wrapping_mul(0x0102_0408_1020_4080) >> 56 << (at % 8 * 8);
+        }
+        let members = Offsets::from_words(words);
+        let last = self.start.checked_add(self.span)?;
+        let is_tabled = self.word < 1024 && allows(self.word, self.span);
+        let fits = match self.is_approximate() {
+            true => members.ends() == Some((self.start, last)),
+            false => is_tabled && members == self.exact_members(),
+        };
+        (bytes & !0x0101_0101_0101_0101 == 0 && is_tabled && fits).then_some(members)
     }
 
     /// The record with the range of these members, if there is one.

@@ -4,7 +4,7 @@ use std::collections::BTreeSet;
 use std::hint::black_box;
 
 use hedjosur_baseline::learn::learn;
-use hedjosur_baseline::sort::{sort_batch, BATCH};
+use hedjosur_baseline::sort::{ascends, sort_batch, BATCH};
 use hedjosur_model::testing::Random;
 use hedjosur_probe_sys as probe;
 
@@ -93,7 +93,7 @@ pub fn learning() {
                 &mut [0; 8 * BATCH],
                 batches.len(),
                 |_| (),
-                run(learn),
+                run(learn_checked),
                 run(probe::learn),
             );
             print("learn", &format!("{}, g {bound}", pattern.0), times);
@@ -117,9 +117,21 @@ pub fn sorting() {
             &mut [[0; BATCH]; 2],
             batches.len(),
             |_| (),
-            run(sort_batch),
+            run(sort),
             run(probe::sort),
         );
         print("sort", pattern.0, times);
     }
+}
+
+/// The baseline's sorting, with the check of the pages that the library makes.
+fn sort(batch: &[u32], pages: &mut [u32], arrivals: &mut [u32]) -> usize {
+    assert!(batch.iter().fold(0, |bits, &page| bits | page) < 1 << 20);
+    sort_batch(batch, pages, arrivals)
+}
+
+/// The baseline's learning, with the check of the order that the library makes.
+fn learn_checked(written: &[u32], first: u32, bound: u32, out: &mut [u8]) -> usize {
+    assert!(ascends(written));
+    learn(written, first, bound, out)
 }

@@ -4,7 +4,6 @@
 use std::hint::black_box;
 
 use hedjosur_baseline::group;
-use hedjosur_baseline::offsets::Offsets;
 use hedjosur_baseline::record::Record;
 use hedjosur_conformance::inputs::{all_offsets, mask_of};
 use hedjosur_conformance::subjects::{Baseline, Subject};
@@ -90,11 +89,10 @@ fn find(part: &Part, offset: u8) -> probe::Found {
     Baseline.find(part, offset)
 }
 
-/// A record to insert, with its members as either side takes them.
+/// A record to insert, with a mask of its members.
 struct New {
     record: [u8; 8],
     mask: [u8; 256],
-    members: Offsets,
 }
 
 fn any_new(random: &mut Random) -> New {
@@ -103,7 +101,6 @@ fn any_new(random: &mut Random) -> New {
     New {
         record: encode_record(&record),
         mask: mask_of(&record),
-        members: record.members().into_iter().collect(),
     }
 }
 
@@ -125,7 +122,8 @@ impl Changed {
     }
 }
 
-/// Times the check of soundness and inserting one record, where there is room.
+/// Times the checks of soundness and of the record with its mask, and inserting it,
+/// where there is room.
 pub fn insertion() {
     for kind in kinds::with_room() {
         let mut random = Random::new(7);
@@ -133,7 +131,9 @@ pub fn insertion() {
         let baseline = |groups: &mut Changed| {
             for (part, new) in groups.now.iter_mut().zip(&records_in) {
                 assert!(group::sound(part, 256, 0));
-                group::insert(part, Record::from_bytes(new.record), new.members);
+                let record = Record::from_bytes(new.record);
+                let members = record.members_by(&new.mask).expect("its members");
+                group::insert(part, record, members);
                 black_box(part);
             }
         };

@@ -180,13 +180,13 @@ static inline const char *hedjosur_refusal_text(enum hedjosur_refusal refusal)
 
 /* The stack that each call needs at most, in bytes; LEN: the two lengths. */
 #define HEDJOSUR_STACK_LEN 256
-#define HEDJOSUR_STACK_FORMAT 1024
-#define HEDJOSUR_STACK_FLUSH 16384
-#define HEDJOSUR_STACK_LOOKUP 2048
-#define HEDJOSUR_STACK_COLLECT 49152
-#define HEDJOSUR_STACK_COMPACT 4096
-#define HEDJOSUR_STACK_AGREE 4096
-#define HEDJOSUR_STACK_LIST 2048
+#define HEDJOSUR_STACK_FORMAT 256
+#define HEDJOSUR_STACK_FLUSH 12288
+#define HEDJOSUR_STACK_LOOKUP 1024
+#define HEDJOSUR_STACK_COLLECT 20480
+#define HEDJOSUR_STACK_COMPACT 2048
+#define HEDJOSUR_STACK_AGREE 2048
+#define HEDJOSUR_STACK_LIST 1024
 
 /*
  * The archive's functions. A slice is passed as a pointer and a length in elements.

@@ -2,7 +2,7 @@
 //!
 //! Each call is safe for one reason: pointer and length are those of a slice that
 //! is borrowed for the time of the call, `&mut` where the function writes. What
-//! else a function requires of its arguments, the wrapper tests before the call.
+//! else a function asks of its arguments, it checks itself.
 
 use crate::{Found, GROUP_BYTES, OUTSIDE};
 
@@ -45,16 +45,6 @@ extern "C" {
 
 /// Sorts a batch; see `probe_sort`.
 pub fn sort(batch: &[u32], pages: &mut [u32], sources: &mut [u32]) -> usize {
-    assert!(batch.len() <= 256, "a batch has at most 256 pages");
-    assert!(pages.len() >= batch.len(), "the list of pages is too short");
-    assert!(
-        sources.len() >= batch.len(),
-        "the list of sources is too short"
-    );
-    assert!(
-        batch.iter().all(|&page| page < 1 << 20),
-        "a page is out of range"
-    );
     // SAFETY: three borrowed slices, the last two for writing.
     let answer = unsafe {
         probe_sort(
@@ -71,16 +61,6 @@ pub fn sort(batch: &[u32], pages: &mut [u32], sources: &mut [u32]) -> usize {
 
 /// Learns a sorted batch; see `probe_learn`.
 pub fn learn(written: &[u32], first: u32, g: u32, out: &mut [u8]) -> usize {
-    assert!(written.len() <= 256, "a batch has at most 256 pages");
-    assert!(
-        out.len() >= 8 * written.len(),
-        "there is no room for the records"
-    );
-    assert!(
-        written.windows(2).all(|pair| pair[0] < pair[1]),
-        "the batch is not sorted"
-    );
-    assert!(g <= 15 && first as usize + written.len() <= 1 << 21);
     let mut taken = [0; 256];
     // SAFETY: three borrowed slices, the last two for writing.
     let answer = unsafe {

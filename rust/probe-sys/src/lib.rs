@@ -2,10 +2,10 @@
 //! exports for tests and benchmarks, declared and wrapped.
 //!
 //! A slice passes as pointer and length (in elements), and each result is a u64.
-//! What a function requires of its arguments, its wrapper tests before the call;
-//! one that checks its condition itself answers [`OUTSIDE`] where it isn't met, and
-//! changes nothing. The functions that take a group's bytes and no `n` and `k` have
-//! as a condition that these are sound, as group 0 of 256 logical pages or more.
+//! Each function checks its condition itself; where that isn't met it answers
+//! [`OUTSIDE`] and changes nothing. The functions that take a group's bytes and no `n`
+//! and `k` have as a condition that these are sound, as group 0 of 256 logical pages
+//! or more.
 //!
 //! | function | parameters | condition | result |
 //! |---|---|---|---|
@@ -16,8 +16,7 @@
 //! | `probe_group_insert` | `part: &mut [u8], record: &[u8], mask: &[u8]` | sound, fewer than 512 records; 8 bytes, a record that a sound group may have; 256 bytes, 1 at the record's members and 0 elsewhere | records after |
 //! | `probe_group_compact` | `part: &mut [u8]` | sound | records left |
 //!
-//! A wrapper panics where its arguments don't meet the condition, also where the
-//! function answers [`OUTSIDE`].
+//! A wrapper panics where the function answers [`OUTSIDE`].
 
 #![deny(unsafe_code)]
 #![warn(missing_docs)]

@@ -76,7 +76,7 @@ passed₃ c = let p = passed₂ (c .before .before) in (p .0, (p .1 .0, (sym (c 
 passed₄ : (c : tie.Else4) → ClearTo-at 4 (opened₄ c)
 passed₄ c =
     let p = passed₃ (c .before .before) in
-    (p .0, (p .1 .0, (p .1 .1 .0, (ap not (sym (c .before .in-range .ensures) ∙ not-false (c .before .in-range .result) (c .if4 .left)), tt))))
+    (p .0, (p .1 .0, (p .1 .1 .0, (ap not (sym (c .before .all-below .ensures) ∙ not-false (c .before .all-below .result) (c .if4 .left)), tt))))
 
 returns : tie.Need-returns
 unfolding verdictOf flushChecks lend
@@ -102,7 +102,7 @@ returns-5 : tie.Need-returns-5
 unfolding verdictOf refusalOf
 returns-5 c =
     let k = c .before .before in
-    says-refused _ _ (left (opened₃ k) ∙ refuses-at 3 _ refl (passed₃ k) (ap not (sym (c .before .in-range .ensures) ∙ not-true (c .before .in-range .result) (c .if4 .taken))))
+    says-refused _ _ (left (opened₃ k) ∙ refuses-at 3 _ refl (passed₃ k) (ap not (sym (c .before .all-below .ensures) ∙ not-true (c .before .all-below .result) (c .if4 .taken))))
 
 returns-6 : tie.Need-returns-6
 unfolding verdictOf refusalOf

@@ -1,7 +1,6 @@
 //! The baseline; no other file of this crate knows it.
 
 use hedjosur_baseline::learn::learn;
-use hedjosur_baseline::offsets::Offsets;
 use hedjosur_baseline::record::Record;
 use hedjosur_baseline::sort::sort_batch;
 use hedjosur_baseline::{device, group};
@@ -40,10 +39,9 @@ impl Subject for Baseline {
     }
 
     fn insert(&self, part: &mut Part, record: &[u8; 8], mask: &[u8; 256]) -> usize {
-        let members: Offsets = (0..=255)
-            .filter(|&offset| mask[usize::from(offset)] != 0)
-            .collect();
-        group::insert(part, Record::from_bytes(*record), members);
+        let record = Record::from_bytes(*record);
+        let members = record.members_by(mask).expect("the record's members");
+        group::insert(part, record, members);
         group::records(part)
     }
 
