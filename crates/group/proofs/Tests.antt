@@ -67,12 +67,23 @@ module _ (m : ℕ) (r : Record) where
             go true q = rw (inside, kind-zero (r .word) (eqb-true _ _ q), e)
             go false q = rw (strided (eqb-false _ _ q), e, zero-mod (r .word / 2))
 
-        pub shaped-single : (r .span ≡ 0 → ⊥) → r .word ≡ 0 → false ≡ shaped m r
+        -- of a single and of stride 1 no remainder is asked for
+        pub shaped-narrow : (r .span ≡ 0 → ⊥) → r .word ≤ 2 → eqb (r .word) 2 ≡ shaped m r
         unfolding shapedAs
-        shaped-single e z = rw (inside, kind-zero (r .word) z, ne-eqb (r .span) 0 e)
+        shaped-narrow e low = go (eqb (r .word) 0) refl
+          where
+            go : (t : Bool) → eqb (r .word) 0 ≡ t → eqb (r .word) 2 ≡ shaped m r
+            go true q =
+                let none : r .word ≡ 0 = eqb-true _ _ q in
+                rw (inside, kind-zero (r .word) none, ne-eqb (r .span) 0 e, none)
+            go false q =
+                let z : r .word ≡ 0 → ⊥ = eqb-false _ _ q in
+                let two : r .word ≡ 2 = omega arith in
+                let whole : r .span % 1 ≡ 0 = omega arith in
+                rw (strided z, two, whole)
 
-        pub shaped-stride : (r .word ≡ 0 → ⊥) → eqb (r .span % (r .word / 2)) 0 ≡ shaped m r
-        shaped-stride z = sym (strided z)
+        pub shaped-stride : 2 < r .word → eqb (r .span % (r .word / 2)) 0 ≡ shaped m r
+        shaped-stride wide = sym (strided (λ z. omega arith))
 
 -- the slot's place: 256 for each level and its start
 module _ (m n p : ℕ) (s : Slot) (byte : s .held .start < 256) (last : InLast n p) where

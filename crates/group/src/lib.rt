@@ -39,7 +39,9 @@ pub const SLOTS: u32 = 512;
 
 pub const OFFSETS: u32 = 256;
 
-// The words of the widest stride, 255, and of the steepest slope, 256.
+// The words of stride 1, of the widest stride, 255, and of the steepest slope, 256.
+const STRIDE_1: u32 = 2;
+
 const WIDEST: u32 = 510;
 
 const STEEPEST: u32 = 513;
@@ -173,8 +175,8 @@ pub fn shaped(r: Record, m: u32) -> bool
     if r.span == 0 {
         return true;
     }
-    if w == 0 {
-        return false;
+    if w <= STRIDE_1 {
+        return w == STRIDE_1;
     }
     r.span % (w / 2) == 0
 }
