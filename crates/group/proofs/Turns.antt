@@ -126,19 +126,17 @@ module _ (t : ℕ → Bool) where
   unfolding everyFrom
   every-done n x h = let e : n - x ≡ 0 = omega arith in rw e
 
--- no owner among all of them: those before offset o taken together, and those from there on
-module _ (c : List ℕ) (any o : ℕ) where
-  pub any-turn : o < 256 → (eqb any 0 && everyFrom (λ x. eqb (getD c x 0) 0) (256 - o) o) ≡ (eqb (bitOr any (getD c o 0)) 0 && everyFrom (λ x. eqb (getD c x 0) 0) (256 - (o + 1)) (o + 1))
-  any-turn h =
-      rw (every-turn (λ x. eqb (getD c x 0) 0) 256 o h, both-none any (getD c o 0))
-      (assoc (eqb any 0) (eqb (getD c o 0) 0) (everyFrom (λ x. eqb (getD c x 0) 0) (256 - (o + 1)) (o + 1)))
+-- a test of all numbers below n by values that are 0 where it holds: those before x taken together, and those from there on
+module _ (t : ℕ → Bool) (n any x : ℕ) where
+  pub any-turn : x < n → (v : ℕ) → eqb v 0 ≡ t x → (eqb any 0 && everyFrom t (n - x) x) ≡ (eqb (bitOr any v) 0 && everyFrom t (n - (x + 1)) (x + 1))
+  any-turn h v e = rw (every-turn t n x h, both-none any v, e) (assoc (eqb any 0) (t x) (everyFrom t (n - (x + 1)) (x + 1)))
     where
       assoc : (a b c : Bool) → (a && (b && c)) ≡ ((a && b) && c)
       assoc true b c = refl
       assoc false b c = refl
 
-  pub any-done : 256 ≤ o → (eqb any 0 && everyFrom (λ x. eqb (getD c x 0) 0) (256 - o) o) ≡ eqb any 0
-  any-done h = rw (every-done (λ x. eqb (getD c x 0) 0) 256 o h) (alone (eqb any 0))
+  pub any-done : n ≤ x → (eqb any 0 && everyFrom t (n - x) x) ≡ eqb any 0
+  any-done h = rw (every-done t n x h) (alone (eqb any 0))
     where
       alone : (a : Bool) → (a && true) ≡ a
       alone true = refl

@@ -2,7 +2,7 @@
 use mathlib.Core.Path.{_≡_, refl, sym, ap, _∙_}
 use mathlib.Core.List.{List}
 use mathlib.Core.Bool.{true≢false, Bool, true, false, not, _&&_}
-use Prim.Native.Nat.{ℕ, zero, suc, _+_, _<_}
+use Prim.Native.Nat.{ℕ, zero, suc, _+_, _≤_, _<_}
 use native.Mathlib.Omega.{arith}
 use lib.Dec.{leb, eqb}
 use lib.ListN.{getD}
@@ -12,16 +12,17 @@ use Rattle.model.specs.Record.{covers, member}
 use Rattle.model.specs.Sound.{soundRecord}
 use Rattle.model.proofs.Bools.{and-l, and-r, and-i, iff-bool, is-false}
 use Rattle.model.proofs.Order.{sound-within}
+use Rattle.model.proofs.SoundRecord.{owned-member}
 use Rattle.record.specs.declared.Record.{Record}
-use Rattle.record.specs.Read.{asRecord, OwnedAs}
-use Rattle.record.specs.Scan.{masked}
+use Rattle.record.specs.Scan.{masked, onStride}
+use Rattle.record.proofs.Strides.{stride-on}
 use Rattle.group.specs.declared.Slot.{Slot}
 use Rattle.group.specs.Reading.{everyFrom}
 use Rattle.group.specs.Checking.{approx, endOf, offsetsIn, shaped}
 use Rattle.group.proofs.Members.{every-of, of-every}
 use Rattle.group.proofs.Ends.{Ends, owned-by}
 use Rattle.group.proofs.Shapes.{owned-approx, sound-shaped, sound-ends, sound-of}
-use Rattle.probe.specs.Groups.{bit, ownerIf, ownersBy, recordBy, marks, fitting, markedAs, marked, endsMarked}
+use Rattle.probe.specs.Groups.{bit, ownerIf, ownersBy, recordBy, marks, fitting, markedAs, marked, maskedIn, Expected, endsMarked}
 
 -- the record owns, by the owners of the mask, what the mask has
 owner-masked : (t : Bool) (start : ℕ) → eqb (ownerIf t start) (suc start) ≡ t
@@ -29,48 +30,66 @@ unfolding ownerIf
 owner-masked true start = eq-eqb (suc start) (suc start) refl
 owner-masked false start = ne-eqb 0 (suc start) (λ e. absurd (omega arith))
 
+-- two tests that agree on all offsets
+pub every-alike : (t u : ℕ → Bool) → ((o : ℕ) → o < 256 → t o ≡ u o) → everyFrom t 256 0 ≡ everyFrom u 256 0
+every-alike t u same =
+    iff-bool _ _ (λ h. of-every u 256 0 (λ o a b. sym (same o b) ∙ every-of t 256 0 h o a b)) (λ h. of-every t 256 0 (λ o a b. same o b ∙ every-of u 256 0 h o a b))
+
 module _ (m : List ℕ) (r : Record) where
   -- the slot of the record alone
   abbrev alone : Slot
   alone = record { level = 0; held = r }
 
-  module _ (o : ℕ) (h : o < 256) where
-    member-by : (owned t : Bool) → masked m o ≡ owned → (owned ≡ true → covers (recordBy m r) o ≡ true)
-        → ((L : List ℕ) → OwnedAs r o owned L → t ≡ member (asRecord r L) o) → t ≡ member (recordBy m r) o
-    member-by owned t e within f =
-        f (recordBy m r .owned) (λ a. (ap (elem o) (owned-approx (ownersBy m r) alone a) ∙ owned-by (ownersBy m r) (r .start) o h ∙ owner-masked (masked m o) (r .start) ∙ e, within))
+  -- A mask that is compared with the one expected, offset by offset: it is tested as the record says.
+  compared : (n : ℕ) (x isMember isCovered : Bool) → x ≡ (isCovered && isMember) → (n ≡ 0 → isMember ≡ true → isCovered ≡ true) → eqb n (bit x) ≡ markedAs n isMember isCovered
+  unfolding markedAs bit
+  compared n x a c e within = ap (λ (t : Bool). eqb n (bit t)) e ∙ go n a c within
+    where
+      go : (n : ℕ) (a c : Bool) → (n ≡ 0 → a ≡ true → c ≡ true) → eqb n (bit (c && a)) ≡ markedAs n a c
+      go zero true true f = ne-eqb 0 1 (λ z. omega arith)
+      go zero true false f = absurd (true≢false (sym (f refl refl)))
+      go zero false true f = eq-eqb 0 0 refl
+      go zero false false f = eq-eqb 0 0 refl
+      go (suc zero) true true f = eq-eqb 1 1 refl
+      go (suc zero) false true f = ne-eqb 1 0 (λ z. omega arith)
+      go (suc zero) a false f = ne-eqb 1 0 (λ z. omega arith)
+      go (suc (suc n)) true true f = ne-eqb (suc (suc n)) 1 (λ z. omega arith)
+      go (suc (suc n)) false true f = ne-eqb (suc (suc n)) 0 (λ z. omega arith)
+      go (suc (suc n)) a false f = ne-eqb (suc (suc n)) 0 (λ z. omega arith)
 
-    -- One offset's test, a law for each way to answer.
-    pub marked-zero : (t : Bool) → getD m o 0 ≡ 0 → ((L : List ℕ) → OwnedAs r o false L → t ≡ member (asRecord r L) o) → not t ≡ marked m r o
-    unfolding markedAs
-    marked-zero t e f =
-        let k : masked m o ≡ false = ap not (eq-eqb (getD m o 0) 0 e) in
-        ap not (member-by false t k (λ x. absurd (true≢false (sym x))) f) ∙ ap (λ (n : ℕ). markedAs n (member (recordBy m r) o) (covers (recordBy m r) o)) (sym e)
-
-    pub marked-many : (getD m o 0 ≡ 0 → ⊥) → (getD m o 0 ≡ 1 → ⊥) → false ≡ marked m r o
-    unfolding markedAs
-    marked-many e f = go (getD m o 0) e f
+  module _ (l : List ℕ) where
+    -- of an approximate record, whose members the mask has
+    pub owned-tested : approx r ≡ true → Expected (maskedIn m (r .start) (endOf r)) l → (o : ℕ) → o < 256 → eqb (getD m o 0) (getD l o 0) ≡ marked m r o
+    unfolding covers
+    owned-tested a expected o h =
+        ap (eqb (getD m o 0)) (expected .1 o h)
+        ∙ compared (getD m o 0) _ _ _ (ap (λ (t : Bool). covers (recordBy m r) o && t) (sym own)) (λ z t. absurd (true≢false (sym t ∙ own ∙ ap not (eq-eqb (getD m o 0) 0 z))))
       where
-        go : (n : ℕ) → (n ≡ 0 → ⊥) → (n ≡ 1 → ⊥) → false ≡ markedAs n (member (recordBy m r) o) (covers (recordBy m r) o)
-        go zero a b = absurd (a refl)
-        go (suc zero) a b = absurd (b refl)
-        go (suc (suc n)) a b = refl
+        own : member (recordBy m r) o ≡ masked m o
+        own = owned-member (recordBy m r) o a ∙ ap (elem o) (owned-approx (ownersBy m r) alone a) ∙ owned-by (ownersBy m r) (r .start) o h ∙ owner-masked (masked m o) (r .start)
 
-    pub marked-beyond : (t : Bool) → getD m o 0 ≡ 1 → ((L : List ℕ) → t ≡ covers (asRecord r L) o) → t ≡ false → false ≡ marked m r o
-    unfolding markedAs
-    marked-beyond t e f q =
-        let k : covers (recordBy m r) o ≡ false = sym (f _) ∙ q in
-        rw (k, e)
+    -- of any other, whose members are those of a stride
+    pub strided-tested : (d e : ℕ) → e ≤ endOf r → ((o : ℕ) → o < 256 → onStride (r .start) d e o ≡ member (recordBy m r) o) → Expected (onStride (r .start) d e) l
+        → (o : ℕ) → o < 256 → eqb (getD m o 0) (getD l o 0) ≡ marked m r o
+    unfolding covers
+    strided-tested d e low same expected o h =
+        ap (eqb (getD m o 0)) (expected .1 o h)
+        ∙ compared (getD m o 0) _ _ _ (same o h ∙ both (member (recordBy m r) o) inside) (λ z. inside)
+      where
+        inside : member (recordBy m r) o ≡ true → covers (recordBy m r) o ≡ true
+        inside t =
+            let q = stride-on (r .start) d e o (same o h ∙ t) in
+            and-i _ _ (le-leb (r .start) o (q .low)) (le-leb o (endOf r) (omega (arith, q .high)))
 
-    pub marked-one : (t u : Bool) → getD m o 0 ≡ 1 → ((L : List ℕ) → t ≡ covers (asRecord r L) o) → t ≡ true
-        → ((L : List ℕ) → OwnedAs r o true L → u ≡ member (asRecord r L) o) → u ≡ marked m r o
-    unfolding markedAs
-    marked-one t u e f q g =
-        let k : covers (recordBy m r) o ≡ true = sym (f _) ∙ q in
-        let l : masked m o ≡ true = ap not (ne-eqb (getD m o 0) 0 (λ z. absurd (omega arith))) in
-        rw (k, e) (member-by true u l (λ x. k) g)
+        both : (a : Bool) → (a ≡ true → covers (recordBy m r) o ≡ true) → a ≡ (covers (recordBy m r) o && a)
+        both true f = rw (f refl)
+        both false f = none (covers (recordBy m r) o)
+          where
+            none : (c : Bool) → false ≡ (c && false)
+            none true = refl
+            none false = refl
 
-  -- The test of the ends, likewise.
+  -- The test of the ends, a law for each way to answer.
   pub ends-other : approx r ≡ false → true ≡ endsMarked (approx r) m r
   unfolding endsMarked
   ends-other e = rw e

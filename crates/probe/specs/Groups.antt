@@ -3,7 +3,7 @@ use mathlib.Core.Path.{_≡_}
 use mathlib.Core.List.{List}
 use mathlib.Core.Option.{Option, none, some}
 use mathlib.Core.Bool.{Bool, true, false, not, _&&_}
-use Prim.Native.Nat.{ℕ, zero, suc, _+_, _*_}
+use Prim.Native.Nat.{ℕ, zero, suc, _+_, _*_, _<_}
 use lib.Dec.{ltb, leb, eqb}
 use lib.ListN.{length, getD}
 use Rattle.model.specs.Device.{groupLength}
@@ -105,6 +105,14 @@ markedAs (suc (suc n)) isMember isCovered = false
 
 abbrev pub marked : List ℕ → Record → ℕ → Bool
 marked m r o = markedAs (getD m o 0) (member (recordBy m r) o) (covers (recordBy m r) o)
+
+-- the mask has offset o, one of s to e
+abbrev pub maskedIn : List ℕ → ℕ → ℕ → ℕ → Bool
+maskedIn m s e o = (leb s o && leb o e) && masked m o
+
+-- a mask with 1 exactly where the test holds
+abbrev pub Expected : (ℕ → Bool) → List ℕ → Type 0
+Expected t l = (length l ≡ offsets) × ((o : ℕ) → o < offsets → getD l o 0 ≡ bit (t o))
 
 -- and the mask has the first and last offset of an approximate record
 unfoldable pub endsMarked : Bool → List ℕ → Record → Bool

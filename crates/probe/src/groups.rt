@@ -3,14 +3,16 @@ use crate::OUTSIDE;
 use group::Hit;
 use record::Record;
 ghost use mathlib.Core.Path.{_≡_};
-ghost use mathlib.Core.Bool.{true};
-ghost use Prim.Native.Nat.{_+_, _≤_, _<_};
-ghost use lib.ListN.{length};
+ghost use mathlib.Core.Bool.{true, false, not};
+ghost use Prim.Native.Nat.{ℕ, _+_, _≤_, _<_};
+ghost use lib.Dec.{eqb};
+ghost use lib.ListN.{length, getD};
 ghost use Rattle.record.specs.Coding.{InEight};
+ghost use Rattle.record.specs.Scan.{onStride};
 ghost use Rattle.group.specs.Layout.{offsets};
 ghost use Rattle.group.specs.Reading.{everyFrom};
 ghost use Rattle.group.specs.Checking.{approx, shaped};
-ghost use Rattle.probe.specs.Groups.{soundness, isSound, finding, Compacts, marked, endsMarked, fitting, hasRoom, insertable, Inserts};
+ghost use Rattle.probe.specs.Groups.{bit, soundness, isSound, finding, Compacts, maskedIn, Expected, marked, endsMarked, fitting, hasRoom, insertable, Inserts};
 
 // The places of a search's values.
 const BIT16: u64 = 65536;
@@ -75,37 +77,92 @@ pub extern "C" fn probe_group_compact(part: &mut [u8]) -> u64
     compaction::compact(part) as u64
 }
 
-// Whether the mask's byte at offset o is as the record says.
-fn marked(r: Record, mask: &[u8], o: u32) -> bool
-    requires { ⌜ (length (now mask) ≡ offsets) × (o < offsets) × (shaped offsets r ≡ true) ⌝ }
-    ensures { λ t. ⌜ t ≡ marked (now (mask .entry)) r o ⌝ }
+// 1 where a byte is set.
+fn one_if_set(byte: u8) -> u8
+    ensures { λ r. ⌜ r ≡ bit (not (eqb byte 0)) ⌝ }
 {
-    let byte = mask[o as usize];
     if byte == 0 {
-        return !r.member(o, false);
+        return 0;
     }
-    if byte != 1 {
-        return false;
-    }
-    if !r.covers(o) {
-        return false;
-    }
-    r.member(o, true)
+    1
 }
 
-// Whether each byte is.
-fn all_marked(r: Record, mask: &[u8]) -> bool
-    requires { ⌜ (length (now mask) ≡ offsets) × (shaped offsets r ≡ true) ⌝ }
-    ensures { λ t. ⌜ t ≡ everyFrom (marked (now (mask .entry)) r) offsets 0 ⌝ }
+// The mask of an approximate record with the offsets s to e has 1 at its own.
+fn expect_owned(mask: &[u8], s: usize, e: usize, expected: &mut [u8])
+    requires { ⌜ (length (now mask) ≡ offsets) × (e < offsets) × Expected (λ o. false) (now expected) ⌝ }
+    ensures { λ _. ⌜ Expected (maskedIn (now (mask .entry)) s e) (now (expected .exit)) ⌝ }
 {
-    let mut o = 0;
-    while o < group::OFFSETS {
-        if !marked(r, mask, o) {
-            return false;
-        }
+    let mut o = s;
+    while o <= e {
+        expected[o] = one_if_set(mask[o]);
         o += 1;
     }
-    true
+}
+
+// The mask of any other has 1 at s, s + d, .. to e.
+fn expect_strided(s: usize, d: usize, e: usize, expected: &mut [u8])
+    requires { ⌜ (0 < d) × (d < 65536) × (e < offsets) × Expected (λ o. false) (now expected) ⌝ }
+    ensures { λ _. ⌜ Expected (onStride s d e) (now (expected .exit)) ⌝ }
+{
+    let mut o = s;
+    while o <= e {
+        expected[o] = 1;
+        o += d;
+    }
+}
+
+// The mask as the record says: an approximate one owns what the mask has in its range.
+fn expect(r: Record, mask: &[u8], expected: &mut [u8])
+    requires { ⌜ (length (now mask) ≡ offsets) × (shaped offsets r ≡ true) × InEight r × Expected (λ o. false) (now expected) ⌝ }
+    ensures { λ _. ⌜ (length (now (expected .exit)) ≡ offsets)
+        × ((o : ℕ) → o < offsets → eqb (getD (now (mask .entry)) o 0) (getD (now (expected .exit)) o 0) ≡ marked (now (mask .entry)) r o) ⌝ }
+{
+    let s = r.start as usize;
+    let e = (r.start + r.span) as usize;
+    let w = r.word;
+    if r.is_approximate() {
+        expect_owned(mask, s, e, expected);
+        return;
+    }
+    if w == 0 {
+        expect_strided(s, 1, s, expected);
+        return;
+    }
+    expect_strided(s, (w / 2) as usize, e, expected);
+}
+
+// 1 where two bytes differ.
+fn one_if_other(a: u8, b: u8) -> u8
+    ensures { λ r. ⌜ eqb r 0 ≡ eqb a b ⌝ }
+{
+    if a == b {
+        return 0;
+    }
+    1
+}
+
+// Whether two masks are the same. Differences are gathered, so that all are compared at once.
+fn same(a: &[u8], b: &[u8]) -> bool
+    requires { ⌜ (length (now a) ≡ offsets) × (length (now b) ≡ offsets) ⌝ }
+    ensures { λ t. ⌜ t ≡ everyFrom (λ o. eqb (getD (now (a .entry)) o 0) (getD (now (b .entry)) o 0)) offsets 0 ⌝ }
+{
+    let mut any = 0;
+    let mut o = 0;
+    while o < group::OFFSETS as usize {
+        any |= one_if_other(a[o], b[o]);
+        o += 1;
+    }
+    any == 0
+}
+
+// Whether each byte of the mask is as the record says.
+fn all_marked(r: Record, mask: &[u8]) -> bool
+    requires { ⌜ (length (now mask) ≡ offsets) × (shaped offsets r ≡ true) × InEight r ⌝ }
+    ensures { λ t. ⌜ t ≡ everyFrom (marked (now (mask .entry)) r) offsets 0 ⌝ }
+{
+    let mut expected = [0u8; group::OFFSETS as usize];
+    expect(r, mask, &mut expected);
+    same(mask, &expected)
 }
 
 // Whether the mask has an approximate record's first and last offset.

@@ -3,7 +3,7 @@
 //! calls.
 //!
 //! `cargo run --release -p hedjosur-bench` in this workspace, best on a machine
-//! with nothing else to do.
+//! with nothing else to do; with names of functions behind `--` these alone.
 
 #![forbid(unsafe_code)]
 
@@ -14,26 +14,47 @@ mod groups;
 mod kinds;
 mod timing;
 
+use std::process::ExitCode;
+
 use timing::Comparison;
 
-fn main() {
+/// What is timed, by the function's name in the table.
+const PARTS: [(&str, fn()); 13] = [
+    ("learn", batches::learning),
+    ("sort", batches::sorting),
+    ("sound", groups::soundness),
+    ("find", groups::finding),
+    ("insert", groups::insertion),
+    ("compact", groups::compaction),
+    ("lookup", calls::lookup),
+    ("compaction", calls::compaction),
+    ("format", calls::format),
+    ("flush", calls::flush),
+    ("flush", calls::flush_of_patterns),
+    ("collection", calls::collection),
+    ("agreement", calls::agreement),
+];
+
+fn main() -> ExitCode {
+    let asked: Vec<String> = std::env::args().skip(1).collect();
+    for name in &asked {
+        if PARTS.iter().all(|(part, _)| part != name) {
+            let mut names = PARTS.map(|(part, _)| part).to_vec();
+            names.dedup();
+            eprintln!("no function {name}; there are {}", names.join(", "));
+            return ExitCode::from(2);
+        }
+    }
     println!(
         "{:<12} {:<30} {:>12} {:>12} {:>8}",
         "function", "input", "baseline µs", "proved µs", "ratio"
     );
-    batches::learning();
-    batches::sorting();
-    groups::soundness();
-    groups::finding();
-    groups::insertion();
-    groups::compaction();
-    calls::lookup();
-    calls::compaction();
-    calls::format();
-    calls::flush();
-    calls::flush_of_patterns();
-    calls::collection();
-    calls::agreement();
+    for (name, time) in PARTS {
+        if asked.is_empty() || asked.iter().any(|asked| asked == name) {
+            time();
+        }
+    }
+    ExitCode::SUCCESS
 }
 
 /// Prints one line of the table.

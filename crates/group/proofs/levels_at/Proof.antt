@@ -1,5 +1,4 @@
 -- `levels_at` meets its contract: none before the first slot, otherwise one more than the last one's number.
-use mathlib.Core.Path.{sym}
 use Rattle.group.proofs.Cases.{levels-none, levels-some}
 use borrow.Author.Needs.{needs}
 use Rattle.group.proofs.levels_at.Statement.{statement}

@@ -1,6 +1,5 @@
 -- `record_count` meets its contract: the group has a record for each used slot.
 use borrow.Author.Needs.{needs}
-use mathlib.Core.Path.{sym, _∙_}
 use Rattle.group.proofs.Slots.{count-read}
 use Rattle.group.proofs.record_count.Statement.{statement}
 use Rattle.group.proofs.record_count.Tie as tie

@@ -23,10 +23,10 @@ loop-holds : tie.Need-loop-holds Inv-loop μ-loop
 loop-holds c = (omega arith, refl)
 
 loop-again : tie.Need-loop-again Inv-loop μ-loop
-loop-again c = (omega arith, c .before .before .loop .inv .1 ∙ any-turn (c .before .before .before .args .owners .now) (c .before .before .loop .any) _ (c .before .loop-test .taken))
+loop-again c = (omega arith, c .before .before .loop .inv .1 ∙ any-turn _ 256 (c .before .before .loop .any) _ (c .before .loop-test .taken) _ refl)
 
 returns : tie.Need-returns Inv-loop μ-loop
-returns c = sym (c .before .loop .inv .1 ∙ any-done (c .before .before .args .owners .now) (c .before .loop .any) _ (c .loop-test .left))
+returns c = sym (c .before .loop .inv .1 ∙ any-done _ 256 (c .before .loop .any) _ (c .loop-test .left))
 
 pub unowned-spec : {M : Type 1} → statement M
 unowned-spec = tie.close (tie.spec Inv-loop μ-loop loop-holds (λ c. search needs) (λ c. search needs)

@@ -23,7 +23,7 @@ returns-2 : tie.Need-returns-2
 returns-2 c = not-ends _ _ (sym (c .before .ends-marked .ensures) ∙ not-true _ (c .if2 .taken))
 
 all-marked-requires : tie.Need-all-marked-requires
-all-marked-requires c κs = (c .before .before .before .before .before .pre .0, shape (c .before .before))
+all-marked-requires c κs = (c .before .before .before .before .before .pre .0, shape (c .before .before), c .before .before .before .before .before .pre .1)
 
 returns-3 : tie.Need-returns-3
 returns-3 c = all-tests _ _ (shape (c .before .before .before)) (sym (c .before .before .ends-marked .ensures) ∙ not-false _ (c .before .if2 .left)) _ (c .all-marked .ensures)

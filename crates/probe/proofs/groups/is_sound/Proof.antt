@@ -1,6 +1,5 @@
 -- By the length, then by the group.
 use borrow.Author.Needs.{needs}
-use native.Mathlib.Omega.{arith}
 use Rattle.model.specs.Device.{groupLength}
 use Rattle.probe.proofs.Conditions.{other-length, right-size}
 use Rattle.probe.proofs.groups.is_sound.Statement.{statement}
