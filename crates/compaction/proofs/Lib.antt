@@ -1,4 +1,5 @@
 pub mod Depths
+pub mod Tables
 pub mod Counts
 pub mod Ranks
 pub mod Arrivals
@@ -6,11 +7,7 @@ pub mod Starts
 pub mod OneLevel
 pub mod Passing
 pub mod Whole
-pub mod Taking
 pub mod Marks
-pub mod Others
-pub mod Tables
-pub mod Parts
-pub mod InOrder
+pub mod Members
 pub mod Spreading
 pub mod Gathering

@@ -16,33 +16,29 @@ use Rattle.compaction.specs.Levels.{point}
 abbrev pub startAt : List Record → ℕ → ℕ
 startAt l i = getD l i (point 0) .start
 
--- no record above has it as a member
-shrunk-apart : (above l : List Record) (i : ℕ) → i < length (shrinkAll above l) → memberOfAny above (startAt (shrinkAll above l) i) ≡ false
+-- no record above has the starts of l as members, and no two are alike
+record Fresh (above l : List Record) : Type 0 where
+  apart : (i : ℕ) → i < length l → memberOfAny above (startAt l i) ≡ false
+  differ : (i j : ℕ) → i < j → j < length l → startAt l i ≡ startAt l j → ⊥
+
+fresh : (above l : List Record) → Fresh above (shrinkAll above l)
 unfolding shrinkAll keep memberOfAny
-shrunk-apart above [] i h = absurd (omega arith)
-shrunk-apart above (r ∷ l) i h = go (shrink (memberOfAny above) r) (shrink-outcome (memberOfAny above) r) i h (λ j k. or-none (member r (startAt (shrinkAll (r ∷ above) l) j)) _ (shrunk-apart (r ∷ above) l j k) .1)
+fresh above [] = record { apart = λ i h. absurd (omega arith); differ = λ i j h k e. omega arith }
+fresh above (r ∷ l) = go (shrink (memberOfAny above) r) (shrink-outcome (memberOfAny above) r) (shrinkAll (r ∷ above) l) (fresh (r ∷ above) l)
   where
-    go : (x : Option Record) → Outcome (memberOfAny above) r x → (j : ℕ) → j < length (keep x (shrinkAll (r ∷ above) l))
-        → ((j : ℕ) → j < length (shrinkAll (r ∷ above) l) → memberOfAny above (startAt (shrinkAll (r ∷ above) l) j) ≡ false)
-        → memberOfAny above (startAt (keep x (shrinkAll (r ∷ above) l)) j) ≡ false
-    go none (gone n) j k ih = ih j k
-    go (some s) (left i) zero k ih = i .first .1
-    go (some s) (left i) (suc j) k ih = ih j (omega arith)
+    go : (x : Option Record) → Outcome (memberOfAny above) r x → (k : List Record) → Fresh (r ∷ above) k → Fresh above (keep x k)
+    go none (gone n) k f = record { apart = λ i h. or-none (member r (startAt k i)) _ (f .apart i h) .1; differ = f .differ }
+    go (some s) (left i) k f = record { apart = apart′; differ = differ′ }
+      where
+        apart′ : (j : ℕ) → j < suc (length k) → memberOfAny above (startAt (s ∷ k) j) ≡ false
+        apart′ zero h = i .first .1
+        apart′ (suc j) h = or-none (member r (startAt k j)) _ (f .apart j (omega arith)) .1
+
+        differ′ : (j m : ℕ) → j < m → m < suc (length k) → startAt (s ∷ k) j ≡ startAt (s ∷ k) m → ⊥
+        differ′ j zero h q e = omega arith
+        differ′ zero (suc m) h q e = true≢false (sym (i .first .0) ∙ ap (member r) e ∙ or-none (member r (startAt k m)) _ (f .apart m (omega arith)) .0)
+        differ′ (suc j) (suc m) h q e = f .differ j m (omega arith) (omega arith) e
 
 -- No two start alike.
 pub starts-differ : (above l : List Record) (i j : ℕ) → i < j → j < length (shrinkAll above l) → startAt (shrinkAll above l) i ≡ startAt (shrinkAll above l) j → ⊥
-unfolding shrinkAll keep memberOfAny
-starts-differ above [] i j h k e = absurd (omega arith)
-starts-differ above (r ∷ l) i j h k e = go (shrink (memberOfAny above) r) (shrink-outcome (memberOfAny above) r) i j h k e (starts-differ (r ∷ above) l)
-  where
-    below : List Record
-    below = shrinkAll (r ∷ above) l
-
-    go : (x : Option Record) → Outcome (memberOfAny above) r x → (i j : ℕ) → i < j → j < length (keep x below) → startAt (keep x below) i ≡ startAt (keep x below) j
-        → ((i j : ℕ) → i < j → j < length below → startAt below i ≡ startAt below j → ⊥) → ⊥
-    go none (gone n) i j h k e ih = ih i j h k e
-    go (some s) (left f) i zero h k e ih = omega arith
-    go (some s) (left f) zero (suc j) h k e ih =
-        let no = or-none (member r (startAt below j)) _ (shrunk-apart (r ∷ above) l j (omega arith)) .0 in
-        true≢false (sym (f .first .0) ∙ ap (member r) e ∙ no)
-    go (some s) (left f) (suc i) (suc j) h k e ih = ih i j (omega arith) (omega arith) e
+starts-differ above l = fresh above l .differ

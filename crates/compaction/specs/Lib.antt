@@ -1,5 +1,5 @@
 pub mod Levels
 pub mod Order
-pub mod Taking
+pub mod Marking
 pub mod Ordering
 pub mod Passing

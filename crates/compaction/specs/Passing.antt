@@ -1,7 +1,7 @@
 -- The pass over a group's records from the top: what is left of those passed stands in the first slots, with the levels that these records
 -- get, in the order in which they come. Assumes nothing.
 use mathlib.Core.Path.{_≡_}
-use mathlib.Core.List.{List, [], _++_, map}
+use mathlib.Core.List.{List, [], _++_}
 use mathlib.Core.Bool.{true}
 use Prim.Native.Nat.{ℕ, _+_, _≤_, _<_}
 use lib.ListN.{length, getD, take}
@@ -15,7 +15,6 @@ use Rattle.record.specs.Read.{bare}
 use Rattle.record.specs.Scan.{masked}
 use Rattle.group.specs.Layout.{offsets, slotsOf, ownerOf}
 use Rattle.group.specs.Answers.{noSlot}
-use Rattle.group.specs.Held.{slotFor}
 use Rattle.group.specs.Reading.{readGroup}
 use Rattle.insertion.specs.Shown.{weight}
 use Rattle.compaction.specs.Levels.{point, arrivals}
@@ -28,14 +27,15 @@ pub record Passing (g : Group) (b above deep : List ℕ) (i n : ℕ) : Type 0 wh
   pub passed : List Record
   pub rest : List Record
   pub full : Full b
-  pub first : take n (slotsOf b) ≡ map slotFor (arrivals [] kept)
+  pub first : take n (slotsOf b) ≡ arrivals [] kept
   pub behind : (j : ℕ) → j < length rest → getD (slotsOf b) (i + j) noSlot .held ≡ bare (getD rest j (point 0))
   pub place : length kept ≡ n
   pub low : n ≤ i
   pub count : i + length rest ≡ recordCount g
   pub limit : recordCount g ≤ 512
   pub owners : (o : ℕ) → o < offsets → ownerOf b o ≡ total (weight o) (kept ++ rest)
-  pub sound : all (soundRecord 256 0) (kept ++ rest) ≡ true
+  pub kept-sound : all (soundRecord 256 0) kept ≡ true
+  pub rest-sound : all (soundRecord 256 0) rest ≡ true
   pub once : OwnedOnce (kept ++ rest)
   pub same : kept ++ shrinkAll passed rest ≡ shrinkAll [] (listing g)
   pub mask : length above ≡ offsets

@@ -8,7 +8,7 @@ use native.Mathlib.Nat.{mod-lt, mod-one, mod-le, mod-add-div', mul-mod-left}
 use lib.Dec.{eqb}
 use lib.ListN.{getD}
 use borrow.Author.Tests.{eqb-true, eq-eqb}
-use Rattle.model.specs.Record.{Record, member, memberAs, accurate}
+use Rattle.model.specs.Record.{Record, end, covers, member, memberAs, accurate}
 use Rattle.model.proofs.Bools.{iff-bool}
 use Rattle.model.proofs.Shrink.{On, on-of, of-on, member-as}
 use Rattle.record.specs.Scan.{masked, stays, onStride}
@@ -42,10 +42,10 @@ module _ (s l d : ℕ) (some : 0 < d) where
           let c : o < s + (l - l % d) + d = omega (arith, mod-le l d) in
           omega (arith, gap s d (s + (l - l % d)) o a b c whole p)
 
-module _ (r : Record) (m : List ℕ) where
-  pub single-picks : r .word ≡ 0 → (o : ℕ) → o < 256 → (member r o && not (masked m o)) ≡ (onStride (r .start) 1 (r .start) o && stays m o)
-  unfolding stays
-  single-picks w o h = ap (λ (t : Bool). t && not (masked m o)) (sym (member-single r o w) ∙ iff-bool _ _ there back)
+-- a single's members and an accurate record's are the offsets of a stride
+module _ (r : Record) (o : ℕ) where
+  pub single-members : r .word ≡ 0 → member r o ≡ onStride (r .start) 1 (r .start) o
+  single-members w = sym (member-single r o w) ∙ iff-bool _ _ there back
     where
       there : eqb o (r .start) ≡ true → onStride (r .start) 1 (r .start) o ≡ true
       there e =
@@ -56,6 +56,15 @@ module _ (r : Record) (m : List ℕ) where
       back e =
           let q = stride-on (r .start) 1 (r .start) o e in
           eq-eqb o (r .start) (omega (arith, q .low, q .high))
+
+  pub accurate-members : (r .word ≡ 0 → ⊥) → (r .word % 2 ≡ 1 → ⊥) → member r o ≡ onStride (r .start) (r .word / 2) (end r) o
+  unfolding onStride memberAs covers
+  accurate-members more even = member-as r (accurate (r .word / 2)) o (kind-even _ more even)
+
+module _ (r : Record) (m : List ℕ) where
+  pub single-picks : r .word ≡ 0 → (o : ℕ) → o < 256 → (member r o && not (masked m o)) ≡ (onStride (r .start) 1 (r .start) o && stays m o)
+  unfolding stays
+  single-picks w o h = ap (λ (t : Bool). t && not (masked m o)) (single-members r o w)
 
   pub strided-picks : (r .word ≡ 0 → ⊥) → (r .word % 2 ≡ 1 → ⊥) → (o : ℕ) → o < 256
       → (member r o && not (masked m o)) ≡ (onStride (r .start) (r .word / 2) (r .start + (r .span - r .span % (r .word / 2))) o && stays m o)

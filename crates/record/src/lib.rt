@@ -123,7 +123,7 @@ impl Record {
     }
 
     // What is left of it: the first and last of the offsets s, s + d, .. to e that stay by the mask, and all between.
-    fn shrunk(self, mask: &[u8], s: u32, d: u32, e: u32) -> Left
+    pub fn shrunk(self, mask: &[u8], s: u32, d: u32, e: u32) -> Left
         requires { ⌜ (length (now mask) ≡ 256) × (0 < d) × (d ≤ 2147483648) × (s ≤ e) × (e ≤ 255) × ((e - s) % d ≡ 0) ⌝ }
         ensures { λ r. ⌜ ((L : List ℕ) (t : ℕ → Bool) → ((o : ℕ) → o < 256 → t o ≡ (onStride s d e o && stays (now (mask .entry)) o)) → leftOf r ≡ Option·map bare (shrunkToAny (asRecord self L) (select t 256 0))) ⌝ }
     {

@@ -5,8 +5,8 @@ use Prim.Native.Nat.{_+_, _%_, _≤_}
 use native.Mathlib.Omega.{arith}
 use borrow.Author.Needs.{needs}
 use Rattle.record.proofs.Words.{even-of}
+use Rattle.record.proofs.Masks.{single-members, accurate-members}
 use Rattle.group.proofs.Shapes.{shaped-below}
-use Rattle.compaction.proofs.Others.{single-stride, accurate-stride}
 use Rattle.probe.specs.Groups.{recordBy}
 use Rattle.probe.proofs.Marks.{owned-tested, strided-tested}
 use Rattle.probe.proofs.groups.expect.Statement.{statement}
@@ -34,7 +34,7 @@ returns-2 c =
     let start = c .before .before .before .before .before .before .before .before .before .before .before in
     let called = c .before .before in
     let single = called .before .before .if2 .taken in
-    (called .expect-strided .ensures .0, strided-tested (start .args .mask .now) (start .args .r) (called .expect-strided .last .1 .1 .1 .0) 1 _ (omega arith) (λ o h. single-stride (recordBy (start .args .mask .now) (start .args .r)) o single h) (called .expect-strided .ensures))
+    (called .expect-strided .ensures .0, strided-tested (start .args .mask .now) (start .args .r) (called .expect-strided .last .1 .1 .1 .0) 1 _ (omega arith) (λ o h. sym (single-members (recordBy (start .args .mask .now) (start .args .r)) o single)) (called .expect-strided .ensures))
 
 expect-strided-requires-2 : tie.Need-expect-strided-requires-2
 expect-strided-requires-2 c κs =
@@ -46,7 +46,7 @@ returns-3 c =
     let start = c .before .before .before .before .before .before .before .before .before .before .before in
     let called = c .before .before in (
       called .expect-strided2 .ensures .0,
-      strided-tested (start .args .mask .now) (start .args .r) (called .expect-strided2 .last .1 .1 .1 .0) _ _ (omega arith) (λ o h. accurate-stride (recordBy (start .args .mask .now) (start .args .r)) o (called .before .before .if2 .left) (accurate (called .before .before .before))) (called .expect-strided2 .ensures),
+      strided-tested (start .args .mask .now) (start .args .r) (called .expect-strided2 .last .1 .1 .1 .0) _ _ (omega arith) (λ o h. sym (accurate-members (recordBy (start .args .mask .now) (start .args .r)) o (called .before .before .if2 .left) (accurate (called .before .before .before)))) (called .expect-strided2 .ensures),
     )
 
 pub expect-spec : {M : Type 1} → statement M
