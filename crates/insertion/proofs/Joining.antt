@@ -3,16 +3,17 @@
 use mathlib.Core.Path.{_≡_, refl, sym, _∙_, ap}
 use mathlib.Core.List.{List, [], _∷_, _++_, map}
 use mathlib.Core.Bool.{true≢false, Bool, true, false, _&&_}
-use Prim.Native.Nat.{ℕ, suc, _+_, _≤_, _<_}
+use Prim.Native.Nat.{ℕ, suc, _≤_, _<_}
 use native.Mathlib.Omega.{arith}
 use lib.Dec.{leb, ltb, eqb}
 use lib.ListN.{length, drop}
-use borrow.Author.Tests.{ne-eqb, leb-true, leb-false, ltb-true, ltb-false, lt-ltb, le-ltb, le-leb, lt-leb}
+use borrow.Author.Tests.{ne-eqb, leb-true, leb-false, ltb-true, ltb-false, lt-ltb, le-ltb, le-leb}
 use Rattle.model.specs.Record as model
 use Rattle.model.specs.Record.{end}
 use Rattle.model.specs.Levels.{Level, Group, meets, meetsAny, into}
 use Rattle.model.specs.Sound.{ordered}
 use Rattle.model.proofs.Bools.{and-l, and-r}
+use Rattle.model.proofs.Ranges.{before-meets, meets-sym}
 use Rattle.bytes.specs.Slots.{insertAt}
 use Rattle.record.specs.Read.{asRecord, bare}
 use Rattle.group.specs.declared.Slot.{Slot}
@@ -21,19 +22,6 @@ use Rattle.group.specs.Held.{slotFor}
 use Rattle.insertion.specs.Flat.{tag}
 use Rattle.insertion.specs.Slots.{slot}
 use Rattle.insertion.specs.Turns.{isAhead, countAhead, meetsFirst}
-
--- records that lie one behind the other don't meet
-pub apart : (u s : model.Record) → end s < u .start → meets u s ≡ false
-unfolding meets
-apart u s h = rw (lt-leb (u .start) (end s) h)
-
-pub apart-behind : (u s : model.Record) → end u < s .start → meets u s ≡ false
-unfolding meets
-apart-behind u s h = rw (lt-leb (s .start) (end u) h) (and-false (leb (u .start) (end s)))
-  where
-    and-false : (t : Bool) → (t && false) ≡ false
-    and-false true = refl
-    and-false false = refl
 
 -- whether two records meet is told by their four numbers
 meets-bare : (u s : model.Record) → meets (asRecord (bare u) []) (asRecord (bare s) []) ≡ meets u s
@@ -51,7 +39,7 @@ unfolding meetsAny ordered
 none-behind u o [] h e = refl
 none-behind u o (s ∷ l) h e =
     let low : o ≤ s .start = leb-true _ _ (and-l (leb o (s .start)) _ e) in
-    let n : meets u s ≡ false = apart-behind u s (omega arith) in
+    let n : meets u s ≡ false = before-meets u s (omega arith) in
     rw (n, meetsAny) (none-behind u (suc (end s)) l (omega arith) (and-r (leb o (s .start)) _ e))
 
 -- slots of a level below 1 are not ahead, and none meets the record at level 1
@@ -75,7 +63,7 @@ module _ (u : model.Record) where
   found o [] g e =
       let d = deeper 0 g in
       record { few = omega (arith, d .0); meet = rw (d .0) (d .1); place = λ n. rw (d .0) }
-  found o (s ∷ l) g e = go (ltb (end s) (u .start)) refl (found (suc (end s)) l g (and-r (leb o (s .start)) _ e))
+  found o (s ∷ l) g e = go (ltb (end s) (u .start)) (meets u s) refl refl (found (suc (end s)) l g (and-r (leb o (s .start)) _ e))
     where
       rest : List Slot
       rest = map slotFor (tag 1 l ++ flatFrom 2 g)
@@ -83,42 +71,26 @@ module _ (u : model.Record) where
       here : Slot
       here = slotFor (slot 1 s)
 
-      go : (t : Bool) → ltb (end s) (u .start) ≡ t → Found l rest → Found (s ∷ l) (here ∷ rest)
-      go true h f =
+      stops : ltb (end s) (u .start) ≡ false → countAhead (u .start) (here ∷ rest) ≡ 0
+      stops h = let ahead : isAhead (u .start) here ≡ false = h in rw (ahead, countAhead)
+
+      go : (a t : Bool) → ltb (end s) (u .start) ≡ a → meets u s ≡ t → Found l rest → Found (s ∷ l) (here ∷ rest)
+      go true t h m f =
           let before : end s < u .start = ltb-true (end s) (u .start) h in
           let ahead : isAhead (u .start) here ≡ true = h in
-          let n : meets u s ≡ false = apart u s before in
           let count : countAhead (u .start) (here ∷ rest) ≡ suc (countAhead (u .start) rest) = rw (ahead, countAhead) in
           let later : ltb (u .start) (s .start) ≡ false = le-ltb (u .start) (s .start) (omega arith) in
-          let same : meetsAny u (s ∷ l) ≡ meetsAny u l = rw (n, meetsAny) in
+          let same : meetsAny u (s ∷ l) ≡ meetsAny u l = rw (meets-sym s u (before-meets s u before), meetsAny) in
           record {
             few = omega (arith, count, f .few);
             meet = rw (count, same) (f .meet);
-            place = λ m. rw (count, later, into) (ap (λ (x : Level). s ∷ x) (f .place (sym same ∙ m)));
+            place = λ n. rw (count, later, into) (ap (λ (x : Level). s ∷ x) (f .place (sym same ∙ n)));
           }
-      go false h f =
-          let ahead : isAhead (u .start) here ≡ false = h in
-          let count : countAhead (u .start) (here ∷ rest) ≡ 0 = rw (ahead, countAhead) in
-          first (meets u s) refl count
-        where
-          same : meetsFirst (bare u) (here ∷ rest) ≡ meets u s
-          same = meets-bare u s
-
-          first : (t : Bool) → meets u s ≡ t → countAhead (u .start) (here ∷ rest) ≡ 0 → Found (s ∷ l) (here ∷ rest)
-          first true m c = record {
-            few = omega (arith, c);
-            meet = rw (c, m, meetsAny) (same ∙ m);
-            place = λ n. absurd (true≢false (sym (any m) ∙ n));
-          }
-            where
-              any : meets u s ≡ true → meetsAny u (s ∷ l) ≡ true
-              any y = rw (y, meetsAny)
-          first false m c =
-              let behind : end u < s .start = starts-behind u s m (ltb-false (end s) (u .start) h) in
-              let none : meetsAny u l ≡ false = none-behind u (suc (end s)) l (omega arith) (and-r (leb o (s .start)) (ordered (suc (end s)) l) e) in
-              let earlier : ltb (u .start) (s .start) ≡ true = lt-ltb (u .start) (s .start) (omega arith) in
-              record {
-                few = omega (arith, c);
-                meet = rw (c, m, meetsAny) (same ∙ m ∙ sym none);
-                place = λ n. rw (c, earlier, into);
-              }
+      go false true h m f =
+          let any : meetsAny u (s ∷ l) ≡ true = rw (m, meetsAny) in
+          record { few = omega (arith, stops h); meet = rw (stops h, any) (meets-bare u s ∙ m); place = λ n. absurd (true≢false (sym any ∙ n)) }
+      go false false h m f =
+          let behind : end u < s .start = starts-behind u s m (ltb-false (end s) (u .start) h) in
+          let none : meetsAny u l ≡ false = none-behind u (suc (end s)) l (omega arith) (and-r (leb o (s .start)) (ordered (suc (end s)) l) e) in
+          let earlier : ltb (u .start) (s .start) ≡ true = lt-ltb (u .start) (s .start) (omega arith) in
+          record { few = omega (arith, stops h); meet = rw (stops h, m, meetsAny) (meets-bare u s ∙ m ∙ sym none); place = λ n. rw (stops h, earlier, into) }

@@ -34,24 +34,22 @@ module _ (b mask : List ℕ) (start : ℕ) where
   pub tally-start : (losers : List ℕ) → length losers ≡ 257 → Tallied b mask losers start 0 start
   tally-start losers long = record { size = long; sum = omega arith; marks = λ k h l. absurd (let z : ⊥ = omega arith in z) }
 
-  module _ (losers : List ℕ) (any o w l : ℕ) (so : Tallied b mask losers start any o) (is : w ≡ ownerOf b o) (small : ownerOf b o ≤ 256) (picked : l ≡ either (masked mask o) w 0) where
+  module _ (losers : List ℕ) (any o w l : ℕ) (so : Tallied b mask losers start any o) (low : o < 256) (small : (k : ℕ) → k < 256 → ownerOf b k ≤ 256)
+      (is : w ≡ ownerOf b o) (picked : l ≡ either (masked mask o) w 0) where
     pub tally-low : l ≤ 256
     unfolding either
     tally-low = go (masked mask o) picked
       where
         go : (t : Bool) → l ≡ either t w 0 → l ≤ 256
-        go true e = omega arith
+        go true e = omega (arith, small o low)
         go false e = omega arith
+
+    pub tally-inside : l < length losers
+    tally-inside = omega (arith, so .size, tally-low)
 
     pub tally-turn : Tallied b mask (set losers l 1) start (any + l) (o + 1)
     unfolding either
-    tally-turn =
-        let size = so .size in
-        record {
-          size = length-set losers l 1 ∙ so .size;
-          sum = omega (arith, so .sum, tally-low);
-          marks = λ k h j m p. go k h j m p (eqb k o) refl;
-        }
+    tally-turn = record { size = length-set losers l 1 ∙ so .size; sum = omega (arith, so .sum, tally-low); marks = λ k h j m p. go k h j m p (eqb k o) refl }
       where
         go : (k : ℕ) → start ≤ k → k < o + 1 → masked mask k ≡ true → 0 < ownerOf b k → (t : Bool) → eqb k o ≡ t → (masked (set losers l 1) (ownerOf b k) ≡ true) × (0 < any + l)
         go k h j m p true e =
@@ -59,11 +57,11 @@ module _ (b mask : List ℕ) (start : ℕ) where
             let taken : masked mask o ≡ true = ap (masked mask) (sym i) ∙ m in
             let number : l ≡ ownerOf b o = picked ∙ ap (λ (t : Bool). either t w 0) taken ∙ is in
             let same : ownerOf b k ≡ l = ap (ownerOf b) i ∙ sym number in
-            (ap (masked (set losers l 1)) same ∙ mark-here losers l (omega (arith, so .size, tally-low)), omega arith)
+            (ap (masked (set losers l 1)) same ∙ mark-here losers l tally-inside, omega arith)
         go k h j m p false e =
             let n : k ≡ o → ⊥ = eqb-false k o e in
             let before = so .marks k h (omega arith) m p in
-            (mark-stays losers l (ownerOf b k) (omega (arith, so .size, tally-low)) (before .0), omega (arith, before .1))
+            (mark-stays losers l (ownerOf b k) tally-inside (before .0), omega (arith, before .1))
 
   pub tally-end : (losers : List ℕ) (any o end : ℕ) → end ≤ o → Tallied b mask losers start any o → Marking b mask losers start end (not (eqb any 0))
   tally-end losers any o end h so = record {

@@ -1,23 +1,23 @@
 -- What is left of one of the records that the bytes hold: the offsets' owners are sums, so that whoever owns an offset is
 -- told by its owner, and afterwards they are the sums with what is left of the record in its place. Assumes nothing.
-use mathlib.Core.Path.{_≡_, refl, sym, _∙_, ap}
-use mathlib.Core.List.{List, [], _∷_}
+use mathlib.Core.Path.{_≡_, refl, sym, _∙_, ap, subst}
+use mathlib.Core.List.{List, [], _∷_, map}
 use mathlib.Core.Option.{Option, none, some, Option·map}
-use mathlib.Core.Bool.{true≢false, Bool, true, false, not, _&&_}
+use mathlib.Core.Bool.{true≢false, Bool, true, false, not}
 use Prim.Native.Nat.{ℕ, suc, _+_, _≤_, _<_}
 use native.Mathlib.Omega.{arith}
 use lib.Dec.{eqb}
-use lib.ListN.{length, set}
+use lib.ListN.{length, getD, set}
 use borrow.Author.Tests.{eqb-true, eqb-false, eq-eqb}
-use Rattle.model.specs.Lists.{all, elem, select}
+use Rattle.model.specs.Lists.{all, elem}
 use Rattle.model.specs.Record as model
-use Rattle.model.specs.Record.{Kind, single, accurate, approximate, kind, isApproximate, member}
-use Rattle.model.specs.Levels.{shrink, shrunkToAny}
+use Rattle.model.specs.Record.{Kind, single, accurate, approximate, kindOf, kind, isApproximate, member}
+use Rattle.model.specs.Levels.{shrink}
 use Rattle.model.specs.Sound.{soundRecord}
-use Rattle.model.specs.Totals.{total, owns}
-use Rattle.model.proofs.Bools.{and-i}
-use Rattle.model.proofs.Lists.{picked, no-elem, elem-here}
+use Rattle.model.specs.Totals.{total, indicator, owns}
+use Rattle.model.proofs.Lists.{elem-here}
 use Rattle.model.proofs.Order.{sound-within}
+use Rattle.model.proofs.Shrink.{Outcome, gone, left, shrink-outcome}
 use Rattle.model.proofs.Total.{indicator-le}
 use Rattle.model.proofs.SoundRecord.{record-parts, sound-ascends, sound-owner, owned-member, shrunk-owned, shrunk-sound}
 use Rattle.bytes.specs.Slots.{removeAt}
@@ -27,29 +27,54 @@ use Rattle.record.specs.declared.Left.the-variants.{Kept, Gone}
 use Rattle.record.specs.Read.{asRecord, bare, leftOf}
 use Rattle.record.specs.Scan.{masked}
 use Rattle.record.specs.Coding.{InEight}
-use Rattle.record.proofs.Reading.{approximate-left}
 use Rattle.group.specs.declared.Slot.{Slot}
 use Rattle.group.specs.Layout.{slotsOf, ownerOf}
 use Rattle.group.specs.Cutting.{Placed}
 use Rattle.group.specs.Held.{slotFor}
+use Rattle.group.specs.Answers as answers
 use Rattle.group.specs.Reading.{ownedBy, ownedAs}
 use Rattle.group.proofs.Ends.{owned-in, owned-only, owned-asc}
 use Rattle.group.proofs.Owned.{asc-same}
 use Rattle.slots.specs.View.{Shows, OwnsInRange, LeftOf}
 use Rattle.slots.specs.Owners.{either, startLeft, ownerLeft, owning}
-use Rattle.slots.proofs.Owning.{on-named, on-other, owner-sloped, owner-exact}
-use Rattle.slots.proofs.Maps.{map-removeAt}
-use Rattle.insertion.specs.Slots.{slot, heldAt, records, keepAt}
+use Rattle.slots.proofs.Owning.{owner-named, owner-other}
+use Rattle.slots.proofs.Maps.{map-set, map-removeAt}
+use Rattle.insertion.specs.Slots.{noSlot, slot, heldAt, records, keepAt}
 use Rattle.insertion.specs.Shown.{weight, Shown}
-use Rattle.insertion.proofs.Fits.{kept-eight}
-use Rattle.insertion.proofs.ListWrites.{all-remove}
+use Rattle.insertion.proofs.Fits.{sound-eight}
 use Rattle.insertion.proofs.Weights.{Weighs, yes, no, weighs, unowned, names-owned}
-use Rattle.insertion.proofs.Steps.{remove-total, shown-set, shown-remove, sound-held}
+use Rattle.insertion.proofs.Steps.{worth, remove-total, keep-total, count-total, fault, no-fault, faults-none, none-faulty, shown-length, shown-slot}
 
 -- what a record that may be gone adds to the owner of offset o
 unfoldable pub weightLeft : ℕ → Option model.Record → ℕ
-weightLeft o none = 0
-weightLeft o (some u) = weight o u
+weightLeft o x = worth (weight o) x
+
+module _ (lost : ℕ → Bool) (v : model.Record) (o : ℕ) where
+  -- an offset that what is left of a record doesn't own
+  adds-none : ((u : model.Record) → shrink lost v ≡ some u → elem o (u .owned) ≡ true → ⊥) → weightLeft o (shrink lost v) ≡ 0
+  unfolding weightLeft
+  adds-none n = go (shrink lost v) refl
+    where
+      at : (u : model.Record) → shrink lost v ≡ some u → Weighs o u → weight o u ≡ 0
+      at u e (yes i w k) = absurd (n u e i)
+      at u e (no i w k) = w
+
+      go : (y : Option model.Record) → shrink lost v ≡ y → weightLeft o y ≡ 0
+      go none e = refl
+      go (some u) e = at u e (weighs o u)
+
+  -- and one that it owns
+  adds-start : o < 256 → isApproximate (kind v) ≡ true → member v o ≡ true → lost o ≡ false → (x : Left) → leftOf x ≡ Option·map bare (shrink lost v) → weightLeft o (shrink lost v) ≡ suc (startLeft x)
+  unfolding weightLeft leftOf startLeft weight
+  adds-start h slope e kept x q = go (shrink lost v) (shrink-outcome lost v) x q
+    where
+      go : (y : Option model.Record) → Outcome lost v y → (x : Left) → leftOf x ≡ Option·map bare y → weightLeft o y ≡ suc (startLeft x)
+      go none (gone all-lost) x q = absurd (true≢false (sym (all-lost o h e) ∙ kept))
+      go (some u) (left s) (Kept w) q =
+          let owned : elem o (u .owned) ≡ true = sym (owned-member u o (ap (λ (k : ℕ). isApproximate (kindOf k)) (s .word) ∙ slope)) ∙ s .rest o h e kept in
+          let same : w ≡ bare u = cc in
+          rw (owned, weight, same)
+      go (some u) (left s) Gone q = let z : _≡_ {A = ℕ} 0 1 = cc in absurd (omega arith)
 
 -- a sound record among others, whose owners are theirs
 module _ (b : List ℕ) (v : model.Record) (others : List model.Record) (sound : soundRecord 256 0 v ≡ true) (others-sound : all (soundRecord 256 0) others ≡ true)
@@ -93,121 +118,137 @@ module _ (b : List ℕ) (v : model.Record) (others : List model.Record) (sound :
     pub left-is : leftOf x ≡ Option·map bare (shrink (masked taken) v)
     left-is = left .left ∙ ap (λ (r : model.Record). Option·map bare (shrink (masked taken) r)) owning-back
 
-    -- an offset that what is left doesn't own, and one that it owns
-    adds-none : (o : ℕ) → ((u : model.Record) → shrink (masked taken) v ≡ some u → elem o (u .owned) ≡ true → ⊥) → weightLeft o (shrink (masked taken) v) ≡ 0
-    unfolding weightLeft
-    adds-none o n = go (shrink (masked taken) v) refl
-      where
-        at : (u : model.Record) → shrink (masked taken) v ≡ some u → Weighs o u → weight o u ≡ 0
-        at u e (yes i w k) = absurd (n u e i)
-        at u e (no i w k) = w
-
-        go : (y : Option model.Record) → shrink (masked taken) v ≡ y → weightLeft o y ≡ 0
-        go none e = refl
-        go (some u) e = at u e (weighs o u)
-
-    adds-start : (o : ℕ) → o < 256 → isApproximate (kind v) ≡ true → elem o (v .owned) ≡ true → masked taken o ≡ false → weightLeft o (shrink (masked taken) v) ≡ suc (startLeft x)
-    unfolding weightLeft leftOf startLeft shrink shrunkToAny weight
-    adds-start o h slope e kept = go x (approximate-left (masked taken) v (leftOf x) left-is slope)
-      where
-        L : List ℕ
-        L = select (λ k. member v k && not (masked taken k)) 256 0
-
-        here : elem o L ≡ true
-        here = picked (λ k. member v k && not (masked taken k)) 256 0 .every o (omega arith) (omega arith) (and-i _ _ (owned-member v o slope ∙ e) (ap not kept))
-
-        nonempty : (l : List ℕ) → elem o l ≡ true → shrunkToAny v l ≡ none → ⊥
-        nonempty [] i n = no-elem o i
-        nonempty (y ∷ l) i n = let z : _≡_ {A = ℕ} 0 1 = cc in omega arith
-
-        go : (y : Left) → shrink (masked taken) v ≡ Option·map (λ s. asRecord s L) (leftOf y) → weightLeft o (shrink (masked taken) v) ≡ suc (startLeft y)
-        go (Kept u) q = ap (weightLeft o) q ∙ ap (λ (t : Bool). elim t [ true ↦ suc (u .start) | false ↦ 0 ]) here
-        go Gone q = absurd (nonempty L here q)
-
     -- what is left of it takes its part in the owners
     pub owners-after : (o : ℕ) → o < 256 → ownerOf c o ≡ weightLeft o (shrink (masked taken) v) + total (weight o) others
     unfolding either
-    owners-after o h = left .owners o h ∙ go (isApproximate (kind v)) refl (weighs o v) (masked taken o) refl
+    owners-after o h = left .owners o h ∙ go (weighs o v) (masked taken o) refl
       where
-        not-owned : elem o (v .owned) ≡ false → (u : model.Record) → shrink (masked taken) v ≡ some u → elem o (u .owned) ≡ true → ⊥
-        not-owned e u q i = true≢false (sym (shrunk-owned (masked taken) v u q o i .0) ∙ e)
+        by : (t : Bool) → masked taken o ≡ t → isApproximate (kind v) ≡ true → member v o ≡ true → either (masked taken o) 0 (suc (startLeft x)) ≡ weightLeft o (shrink (masked taken) v)
+        by true q slope e = rw (q, either) (sym (adds-none (masked taken) v o (λ u k i. true≢false (sym q ∙ shrunk-owned (masked taken) v u k o i .1))))
+        by false q slope e = rw (q, either) (sym (adds-start (masked taken) v o h slope e q x left-is))
 
-        go : (a : Bool) → isApproximate (kind v) ≡ a → Weighs o v → (t : Bool) → masked taken o ≡ t
-            → ownerLeft (bare v) x (masked taken o) (ownerOf b o) ≡ weightLeft o (shrink (masked taken) v) + total (weight o) others
-        go false a (yes e w n) t d = absurd (true≢false (sym (sound-owner 256 0 v o sound e) ∙ a))
-        go false a (no e w n) t d = owner-exact (bare v) x (masked taken o) (ownerOf b o) a ∙ omega (arith, owner-is o h, adds-none o (not-owned e))
-        go true a (yes e w n) true d =
+        go : Weighs o v → (t : Bool) → masked taken o ≡ t → ownerLeft (bare v) x (masked taken o) (ownerOf b o) ≡ weightLeft o (shrink (masked taken) v) + total (weight o) others
+        go (no e w n) t d =
+            let unnamed = owner-other (bare v) x (masked taken o) (ownerOf b o) (λ a. eqb-false _ _ (names a o h ∙ e)) in
+            omega (arith, unnamed, owner-is o h, adds-none (masked taken) v o (λ u q i. true≢false (sym (shrunk-owned (masked taken) v u q o i .0) ∙ e)))
+        go (yes e w n) t d =
+            let slope = sound-owner 256 0 v o sound e in
             let alone = unowned o others (omega (arith, once o)) in
-            let mine : ownerOf b o ≡ suc (v .start) = omega (arith, owner-is o h) in
-            let lost = adds-none o (λ u q i. true≢false (sym d ∙ shrunk-owned (masked taken) v u q o i .1)) in
-            owner-sloped (bare v) x (masked taken o) (ownerOf b o) a ∙ on-named (v .start) (masked taken o) (startLeft x) (ownerOf b o) mine ∙ rw (d, either) (omega arith)
-        go true a (yes e w n) false d =
-            let alone = unowned o others (omega (arith, once o)) in
-            let mine : ownerOf b o ≡ suc (v .start) = omega (arith, owner-is o h) in
-            let kept = adds-start o h a e d in
-            owner-sloped (bare v) x (masked taken o) (ownerOf b o) a ∙ on-named (v .start) (masked taken o) (startLeft x) (ownerOf b o) mine ∙ rw (d, either) (omega arith)
-        go true a (no e w n) t d =
-            let other : ownerOf b o ≡ suc (v .start) → ⊥ = eqb-false _ _ (names a o h ∙ e) in
-            owner-sloped (bare v) x (masked taken o) (ownerOf b o) a ∙ on-other (v .start) (masked taken o) (startLeft x) (ownerOf b o) other ∙ omega (arith, owner-is o h, adds-none o (not-owned e))
+            omega (arith, owner-named (bare v) x (masked taken o) (ownerOf b o) slope (omega (arith, owner-is o h)), by t d slope (owned-member v o slope ∙ e), alone)
+
+-- what is left of a record, as a record
+pub record Rest (lost : ℕ → Bool) (v : model.Record) (u : Record) : Type 0 where
+  pub rest : model.Record
+  pub is : shrink lost v ≡ some rest
+  pub numbers : u ≡ bare rest
 
 -- the record of slot i among the others that the bytes hold
-module _ (b : List ℕ) (l : List Placed) (shown : Shown b l) (i : ℕ) (h : i < length l) where
+module _ (b : List ℕ) (l : List Placed) (shown : Shown b l) (i : ℕ) (h : i < length (slotsOf b)) where
   abbrev v : model.Record
   v = heldAt i l
 
   abbrev others : List model.Record
   others = records (removeAt i l)
 
-  sound : soundRecord 256 0 v ≡ true
-  sound = sound-held b l shown i h
+  inside : i < length l
+  inside = omega (arith, shown-length b l shown)
+
+  sums : (f : model.Record → ℕ) → total f others + f v ≡ total f (records l)
+  sums f = remove-total f i l inside
+
+  pub held-sound : soundRecord 256 0 v ≡ true
+  held-sound = no-fault v (omega (arith, sums fault, faults-none (records l) (shown .sound)))
 
   others-sound : all (soundRecord 256 0) others ≡ true
-  others-sound = ap (all (soundRecord 256 0)) (map-removeAt (λ (p : Placed). p .item) i l) ∙ all-remove (soundRecord 256 0) i (records l) (shown .sound)
+  others-sound = none-faulty others (omega (arith, sums fault, faults-none (records l) (shown .sound)))
 
   once : (o : ℕ) → owns o v + total (owns o) others ≤ 1
-  once o = omega (arith, remove-total (owns o) i l h, shown .once o)
+  once o = omega (arith, sums (owns o), shown .once o)
 
   owner-is : (o : ℕ) → o < 256 → ownerOf b o ≡ weight o v + total (weight o) others
-  owner-is o k = omega (arith, remove-total (weight o) i l h, shown .owners o k)
+  owner-is o k = omega (arith, sums (weight o), shown .owners o k)
 
   pub held-names : isApproximate (kind v) ≡ true → (o : ℕ) → o < 256 → eqb (ownerOf b o) (suc (v .start)) ≡ elem o (v .owned)
-  held-names = names b v others sound others-sound once owner-is
+  held-names = names b v others held-sound others-sound once owner-is
 
-  pub held-in-range : OwnsInRange (ownerOf b) (bare v)
-  held-in-range = in-range b v others sound others-sound once owner-is
+  module _ (s : Slot) (got : s ≡ getD (slotsOf b) i answers.noSlot) where
+    pub slot-is : s ≡ slotFor (getD l i noSlot)
+    slot-is = got ∙ shown-slot b l shown i
 
-  module _ (c taken : List ℕ) (x : Left) (left : LeftOf b c taken (bare v) x) where
-    pub held-left : leftOf x ≡ Option·map bare (shrink (masked taken) v)
-    held-left = left-is b v others sound others-sound once owner-is c taken x left
+    pub numbers : s .held ≡ bare v
+    numbers = ap (λ (y : Slot). y .held) slot-is
 
-    pub held-eight : (u : Record) → x ≡ Kept u → InEight u
-    unfolding leftOf
-    held-eight u q = kept-eight (masked taken) v u sound (ap leftOf (sym q) ∙ held-left)
+    -- what shrinking asks
+    pub slot-short : s .held .start + s .held .span ≤ 255
+    slot-short = rw numbers (record-parts 256 0 v held-sound .byte)
 
-    pub held-owners : (o : ℕ) → o < 256 → ownerOf c o ≡ weightLeft o (shrink (masked taken) v) + total (weight o) others
-    held-owners = owners-after b v others sound others-sound once owner-is c taken x left
+    pub slot-range : OwnsInRange (ownerOf b) (s .held)
+    slot-range = rw numbers (in-range b v others held-sound others-sound once owner-is)
 
-    -- it is put in its place
-    pub kept-shown : (u : Record) (n : ℕ) (t : List ℕ) → x ≡ Kept u → Shows t (set (slotsOf c) i (record { level = n; held = u })) (ownerOf c)
-        → Shown t (keepAt i n (shrink (masked taken) v) l)
-    unfolding leftOf keepAt weightLeft owns
-    kept-shown u n t q put = go (shrink (masked taken) v) refl (ap leftOf (sym q) ∙ held-left) held-owners
-      where
-        go : (y : Option model.Record) → shrink (masked taken) v ≡ y → some u ≡ Option·map bare y
-            → ((o : ℕ) → o < 256 → ownerOf c o ≡ weightLeft o y + total (weight o) others) → Shown t (keepAt i n y l)
-        go none e p a = let z : _≡_ {A = ℕ} 0 1 = cc in absurd (omega arith)
-        go (some w) e p a =
-            let is : u ≡ bare w = cc in
-            shown-set b l shown i h t (put .0) n w (shrunk-sound 256 0 (masked taken) v w sound e)
-            (λ o. indicator-le (elem o (w .owned)) (elem o (v .owned)) (λ m. shrunk-owned (masked taken) v w e o m .0))
-            (put .1 ∙ ap (λ (r : Record). set (slotsOf c) i (record { level = n; held = r })) is ∙ ap (λ (m : List Slot). set m i (slotFor (slot n w))) (left .slots))
-            (λ o k. omega (arith, put .2 o k, a o k, owner-is o k))
+    module _ (c taken : List ℕ) (x : Left) (left : LeftOf b c taken (s .held) x) where
+      left-bare : LeftOf b c taken (bare v) x
+      left-bare = subst (λ (r : Record). LeftOf b c taken r x) numbers left
 
-    -- or taken out
-    pub gone-shown : (n : ℕ) (t : List ℕ) → x ≡ Gone → Shows t (removeAt i (slotsOf c)) (ownerOf c) → Shown t (keepAt i n (shrink (masked taken) v) l)
-    unfolding leftOf keepAt weightLeft
-    gone-shown n t q put = go (shrink (masked taken) v) (ap leftOf (sym q) ∙ held-left) held-owners
-      where
-        go : (y : Option model.Record) → none ≡ Option·map bare y → ((o : ℕ) → o < 256 → ownerOf c o ≡ weightLeft o y + total (weight o) others) → Shown t (keepAt i n y l)
-        go none p a = shown-remove b l shown i h t (put .0) (put .1 ∙ ap (removeAt i) (left .slots)) (λ o k. omega (arith, put .2 o k, a o k, owner-is o k))
-        go (some w) p a = let z : _≡_ {A = ℕ} 0 1 = cc in absurd (omega arith)
+      is-left : leftOf x ≡ Option·map bare (shrink (masked taken) v)
+      is-left = left-is b v others held-sound others-sound once owner-is c taken x left-bare
+
+      -- nothing is left of it, or a record, which fits
+      pub nothing-left : x ≡ Gone → shrink (masked taken) v ≡ none
+      unfolding leftOf
+      nothing-left q = go (shrink (masked taken) v) (ap leftOf (sym q) ∙ is-left)
+        where
+          go : (y : Option model.Record) → none ≡ Option·map bare y → y ≡ none
+          go none e = refl
+          go (some w) e = let z : _≡_ {A = ℕ} 0 1 = cc in absurd (omega arith)
+
+      pub record-left : (u : Record) → x ≡ Kept u → Rest (masked taken) v u
+      unfolding leftOf
+      record-left u q = go (shrink (masked taken) v) refl (ap leftOf (sym q) ∙ is-left)
+        where
+          go : (y : Option model.Record) → shrink (masked taken) v ≡ y → some u ≡ Option·map bare y → Rest (masked taken) v u
+          go none e p = let z : _≡_ {A = ℕ} 0 1 = cc in absurd (omega arith)
+          go (some w) e p = record { rest = w; is = e; numbers = cc }
+
+      pub left-eight : (u : Record) → x ≡ Kept u → InEight u
+      left-eight u q = let w = record-left u q in rw (w .numbers) (sound-eight (w .rest) (shrunk-sound 256 0 (masked taken) v (w .rest) held-sound (w .is)))
+
+      -- The bytes that hold the others, and what is left of it wherever that stands.
+      pub left-shown : (m : List Placed) (t : List ℕ) → ((f : model.Record → ℕ) → total f (records m) ≡ worth f (shrink (masked taken) v) + total f others)
+          → Shows t (map slotFor m) (ownerOf c) → Shown t m
+      unfolding owns weightLeft
+      left-shown m t made put = record {
+        size = put .0;
+        slots = put .1;
+        owners = λ o k. put .2 o k ∙ owners-after b v others held-sound others-sound once owner-is c taken x left-bare o k ∙ sym (made (weight o));
+        room = omega (arith, count-total m, count-total l, made (λ r. 1), sums (λ r. 1), at-most (λ r. 1) 1 (λ w e. omega arith), shown .room);
+        sound = none-faulty (records m) (omega (
+          arith,
+          made fault,
+          sums fault,
+          faults-none (records l) (shown .sound),
+          at-most fault 0 (λ w e. omega (arith, ap (λ (y : Bool). indicator (not y)) (shrunk-sound 256 0 (masked taken) v w held-sound e))),
+        ));
+        once = λ o. omega (arith, made (owns o), once o, at-most (owns o) (owns o v) (λ w e. indicator-le (elem o (w .owned)) (elem o (v .owned)) (λ k. shrunk-owned (masked taken) v w e o k .0)));
+      }
+        where
+          at-most : (f : model.Record → ℕ) (n : ℕ) → ((w : model.Record) → shrink (masked taken) v ≡ some w → f w ≤ n) → worth f (shrink (masked taken) v) ≤ n
+          at-most f n each = go (shrink (masked taken) v) refl
+            where
+              go : (y : Option model.Record) → shrink (masked taken) v ≡ y → worth f y ≤ n
+              go none e = omega arith
+              go (some w) e = each w e
+
+      -- It is put in its place, or taken out.
+      pub kept-shown : (u : Record) (n : ℕ) (t : List ℕ) → x ≡ Kept u → Shows t (set (slotsOf c) i (record { level = n; held = u })) (ownerOf c)
+          → Shown t (keepAt i n (shrink (masked taken) v) l)
+      unfolding keepAt
+      kept-shown u n t q put =
+          let w = record-left u q in
+          let slots : slotsOf t ≡ map slotFor (keepAt i n (shrink (masked taken) v) l) = put .1 ∙ rw (left .slots, shown .slots, w .numbers, w .is) (sym (map-set slotFor l i (slot n (w .rest)))) in
+          left-shown _ t (λ f. keep-total f i n (shrink (masked taken) v) l inside) (put .0, slots, put .2)
+
+      pub gone-shown : (n : ℕ) (t : List ℕ) → x ≡ Gone → Shows t (removeAt i (slotsOf c)) (ownerOf c) → Shown t (keepAt i n (shrink (masked taken) v) l)
+      unfolding keepAt
+      gone-shown n t q put =
+          let slots : slotsOf t ≡ map slotFor (keepAt i n (shrink (masked taken) v) l) = put .1 ∙ rw (left .slots, shown .slots, nothing-left q) (sym (map-removeAt slotFor i l)) in
+          left-shown _ t (λ f. keep-total f i n (shrink (masked taken) v) l inside) (put .0, slots, put .2)

@@ -50,22 +50,27 @@ among-total o (r ∷ l) h = go (weighs o r) (λ k. among-total o l k)
     go (yes e w n) ih = let z = unowned o l (omega arith) in rw (e, ownerAmong) (omega arith)
     go (no e w n) ih = rw (e, ownerAmong) (omega (arith, ih (omega arith)))
 
--- a sound approximate record owns its start
-pub owns-start : (r : Record) → soundRecord 256 0 r ≡ true → isApproximate (kind r) ≡ true → owns (r .start) r ≡ 1
-unfolding soundAs isApproximate ownsItsEnds owns
-owns-start r h a = go (kind r) refl a (record-parts 256 0 r h .shape)
+-- a sound approximate record owns its ends
+pub sound-ends : (r : Record) → soundRecord 256 0 r ≡ true → isApproximate (kind r) ≡ true → ownsItsEnds r (r .owned) ≡ true
+unfolding soundAs isApproximate
+sound-ends r h a = go (kind r) a (record-parts 256 0 r h .shape)
   where
-    here : (l : List ℕ) → ownsItsEnds r l ≡ true → elem (r .start) l ≡ true
-    here [] e = absurd (true≢false (sym e))
-    here (x ∷ l) e =
-        let p : (ascending (x ∷ l) && eqb x (r .start)) ≡ true = and-l (ascending (x ∷ l) && eqb x (r .start)) _ e in
-        let q : x ≡ r .start = eqb-true _ _ (and-r (ascending (x ∷ l)) _ p) in
-        rw (sym q) (elem-here x l)
+    go : (k : Kind) → isApproximate k ≡ true → soundAs k r ≡ true → ownsItsEnds r (r .owned) ≡ true
+    go single i s = absurd (true≢false (sym i))
+    go (accurate d) i s = absurd (true≢false (sym i))
+    go (approximate c) i s = and-r (leb c 256) _ s
 
-    go : (q : Kind) → kind r ≡ q → isApproximate q ≡ true → soundAs q r ≡ true → owns (r .start) r ≡ 1
-    go single e i s = absurd (true≢false (sym i))
-    go (accurate d) e i s = absurd (true≢false (sym i))
-    go (approximate c) e i s = ap indicator (here (r .owned) (and-r (leb c 256) _ s))
+pub first-owned : (r : Record) (x : ℕ) (l : List ℕ) → ownsItsEnds r (x ∷ l) ≡ true → x ≡ r .start
+unfolding ownsItsEnds
+first-owned r x l e = eqb-true _ _ (and-r (ascending (x ∷ l)) _ (and-l (ascending (x ∷ l) && eqb x (r .start)) _ e))
+
+owns-start : (r : Record) → soundRecord 256 0 r ≡ true → isApproximate (kind r) ≡ true → owns (r .start) r ≡ 1
+unfolding ownsItsEnds owns
+owns-start r h a = ap indicator (go (r .owned) (sound-ends r h a))
+  where
+    go : (l : List ℕ) → ownsItsEnds r l ≡ true → elem (r .start) l ≡ true
+    go [] e = absurd (true≢false (sym e))
+    go (x ∷ l) e = rw (sym (first-owned r x l e)) (elem-here x l)
 
 -- no sum names a start that no record owns
 unnamed : (o x : ℕ) (l : List Record) → all (soundRecord 256 0) l ≡ true → total (owns o) l ≤ 1 → total (owns x) l ≡ 0 → total (weight o) l ≡ suc x → ⊥
@@ -84,22 +89,20 @@ unnamed o x (r ∷ l) a h z e = go (weighs o r) (λ i j k. unnamed o x l (all-ta
         omega arith
     go (no i w n) ih = ih (omega arith) (omega arith) (omega arith)
 
--- an approximate record among sound ones whose offsets have one owner each
-module _ (v : Record) (l : List Record) (sound : soundRecord 256 0 v ≡ true) (others : all (soundRecord 256 0) l ≡ true)
-    (once : (o : ℕ) → owns o v + total (owns o) l ≤ 1) (approximately : isApproximate (kind v) ≡ true) where
-  -- an offset's owner names its start where it owns the offset
-  pub names-owned : (o : ℕ) → eqb (weight o v + total (weight o) l) (suc (v .start)) ≡ elem o (v .owned)
-  names-owned o = go (weighs o v)
-    where
-      go : Weighs o v → eqb (weight o v + total (weight o) l) (suc (v .start)) ≡ elem o (v .owned)
-      go (yes i w n) =
-          let z = unowned o l (omega (arith, once o)) in
-          let q : weight o v + total (weight o) l ≡ suc (v .start) = omega arith in
-          eq-eqb _ _ q ∙ sym i
-      go (no i w n) =
-          let own = owns-start v sound approximately in
-          let differ : weight o v + total (weight o) l ≡ suc (v .start) → ⊥ = λ e. unnamed o (v .start) l others (omega (arith, once o)) (omega (arith, once (v .start))) (omega arith) in
-          ne-eqb _ _ differ ∙ sym i
+-- an offset's owner names the start of an approximate record where that owns the offset
+pub names-owned : (v : Record) (l : List Record) → soundRecord 256 0 v ≡ true → all (soundRecord 256 0) l ≡ true → ((o : ℕ) → owns o v + total (owns o) l ≤ 1) → isApproximate (kind v) ≡ true
+    → (o : ℕ) → eqb (weight o v + total (weight o) l) (suc (v .start)) ≡ elem o (v .owned)
+names-owned v l sound others once slope o = go (weighs o v)
+  where
+    go : Weighs o v → eqb (weight o v + total (weight o) l) (suc (v .start)) ≡ elem o (v .owned)
+    go (yes i w n) =
+        let z = unowned o l (omega (arith, once o)) in
+        let q : weight o v + total (weight o) l ≡ suc (v .start) = omega arith in
+        eq-eqb _ _ q ∙ sym i
+    go (no i w n) =
+        let own = owns-start v sound slope in
+        let differ : weight o v + total (weight o) l ≡ suc (v .start) → ⊥ = λ e. unnamed o (v .start) l others (omega (arith, once o)) (omega (arith, once (v .start))) (omega arith) in
+        ne-eqb _ _ differ ∙ sym i
 
 -- a record that owns offsets nobody owned
 pub owned-more : (o : ℕ) (v : Record) (l : List Record) → owns o v + total (owns o) l ≤ 1 → takenBy (v .start) (elem o (v .owned)) (total (weight o) l) ≡ weight o v + total (weight o) l

@@ -5,11 +5,10 @@ use mathlib.Core.Bool.{Bool, true, false, _&&_}
 use Prim.Native.Nat.{ℕ, suc, _+_, _≤_}
 use lib.Dec.{ltb, eqb}
 use lib.ListN.{length}
-use Rattle.model.specs.Device.{groupLength}
 use Rattle.model.specs.Lists.{all}
 use Rattle.model.specs.Record as model
 use Rattle.model.specs.Record.{end}
-use Rattle.model.specs.Levels.{Level, Group, groupLimit, meets, into, Fate, stays, sinks, goes, stayers, sinkers, sinkAll}
+use Rattle.model.specs.Levels.{Level, Group, meets, into, Fate, stays, sinks, goes, stayers, sinkers, sinkAll}
 use Rattle.model.specs.Sound.{isFilled, ordered}
 use Rattle.bytes.specs.Slots.{insertAt}
 use Rattle.record.specs.declared.Record.{Record}
@@ -18,29 +17,33 @@ use Rattle.group.specs.declared.Slot.{Slot}
 use Rattle.group.specs.Layout.{slotsOf}
 use Rattle.group.specs.Cutting.{flat}
 use Rattle.group.specs.Held.{slotsFor}
+use Rattle.slots.specs.View.{Room}
 use Rattle.insertion.specs.Shown.{Shown}
 use Rattle.insertion.specs.declared.Outcome.{Outcome}
 use Rattle.insertion.specs.declared.Outcome.the-variants.{Passed, Taken, Behind}
 
--- the slots are a group's: level 0 has z of them, `before` before slot i, which holds the item, and `behind` behind it; the
--- levels below are in order and hold records
-pub record Laid (b : List ℕ) (i z : ℕ) : Type 0 where
+-- where slot i stands: level 0 has z slots, `before` before slot i, which holds the item, and `behind` behind it; the levels below are
+-- in order and hold records
+pub record Standing (i z : ℕ) : Type 0 where
   pub before : Level
   pub item : model.Record
   pub behind : Level
   pub below : Group
-  pub size : length b ≡ groupLength
-  pub slots : slotsOf b ≡ slotsFor ((before ++ (item ∷ behind)) ∷ below)
-  pub room : length (slotsOf b) ≤ groupLimit
   pub index : i ≡ length before
   pub count : z ≡ length (before ++ (item ∷ behind))
   pub filled : all isFilled below ≡ true
   pub inOrder : all (ordered 0) below ≡ true
 
--- the bytes also hold these records
+-- the slots are that group's
+pub record Laid (b : List ℕ) (i z : ℕ) : Type 0 where
+  pub at : Standing i z
+  pub room : Room b
+  pub slots : slotsOf b ≡ slotsFor ((at .before ++ (at .item ∷ at .behind)) ∷ at .below)
+
+-- the bytes hold its records
 pub record Facing (b : List ℕ) (i z : ℕ) : Type 0 where
-  pub laid : Laid b i z
-  pub shown : Shown b (flat ((laid .before ++ (laid .item ∷ laid .behind)) ∷ laid .below))
+  pub at : Standing i z
+  pub shown : Shown b (flat ((at .before ++ (at .item ∷ at .behind)) ∷ at .below))
 
 -- level 0's records met their fates under r, whose place is before record p of those that stayed there
 pub record MadeWay (r : model.Record) (top : Level) (rest : Group) (b : List ℕ) (p : ℕ) : Type 0 where

@@ -24,7 +24,7 @@ ghost use Rattle.insertion.specs.Slots.{noSlot, heldAt, keepAt, keepNext
 ghost use Rattle.insertion.specs.InsertSlots.{given, Marked, Marking, isLoser, giveUpSlots, settle};
 ghost use Rattle.insertion.specs.Shown.{Shown, Tidy};
 ghost use Rattle.insertion.specs.Ready.{Masks, Parted, Ready};
-ghost use Rattle.insertion.specs.Turns.{Laid, Facing, MadeWay, side, outcome, endsBefore, isAhead, countAhead, meetsFirst};
+ghost use Rattle.insertion.specs.Turns.{Laid, Facing, MadeWay, side, outcome, endsBefore, countAhead, meetsFirst};
 
 // How a slot of level 0 comes out of its turn under a new record: it stays before the record's place, left its level, or stays
 // behind that place.
@@ -157,18 +157,6 @@ fn first_met(b: &[u8], z: u32, start: u32) -> u32
     low
 }
 
-// Whether a slot is of level 1 and ends before `start`.
-fn is_ahead(s: Slot, start: u32) -> bool
-    requires { ⌜ InEight (s .held) ⌝ }
-    ensures { λ t. ⌜ t ≡ isAhead start s ⌝ }
-{
-    if s.level != 1 {
-        return false;
-    }
-    let held = s.held;
-    held.start + held.span < start
-}
-
 // The first slot from slot z on that isn't of level 1 or doesn't end before `start`.
 fn skip(b: &[u8], z: u32, start: u32) -> u32
     requires { ⌜ Room (now b) × (z ≤ length (slotsOf (now b))) ⌝ }
@@ -178,7 +166,11 @@ fn skip(b: &[u8], z: u32, start: u32) -> u32
     let mut j = z;
     while j < m {
         let s = slots::get(b, j);
-        if !is_ahead(s, start) {
+        if s.level != 1 {
+            return j;
+        }
+        let held = s.held;
+        if start <= held.start + held.span {
             return j;
         }
         j += 1;
@@ -206,7 +198,7 @@ fn meets_there(b: &[u8], p: u32, u: Record) -> bool
 // meets a record there.
 fn lower(b: &mut [u8], i: u32, z: u32, u: Record)
     requires { ⌜ Laid (now b) i z × InEight u ⌝ }
-    ensures { λ _. ⌜ ((q : Laid (now (b .entry)) i z) (L : List ℕ) → Shows (now (b .exit)) (slotsFor ((q .before ++ q .behind) ∷ sink (asRecord u L) (q .below))) (ownerOf (now (b .entry)))) ⌝ }
+    ensures { λ _. ⌜ ((q : Laid (now (b .entry)) i z) (L : List ℕ) → Shows (now (b .exit)) (slotsFor ((q .at .before ++ q .at .behind) ∷ sink (asRecord u L) (q .at .below))) (ownerOf (now (b .entry)))) ⌝ }
 {
     let start = u.start;
     let p = skip(b, z, start);
@@ -232,8 +224,8 @@ fn side_of(u: Record, r: Record) -> Outcome
 fn turn(b: &mut [u8], i: u32, z: u32, r: Record, mask: &[u8]) -> Outcome
     requires { ⌜ Facing (now b) i z × (length (now mask) ≡ 256) ⌝ }
     ensures { λ x. ⌜ ((q : Facing (now (b .entry)) i z) (L : List ℕ) → Masks (now (mask .entry)) (asRecord r L)
-        → Shown (now (b .exit)) (flat ((q .laid .before ++ staying (fate (asRecord r L) (q .laid .item)) (q .laid .behind)) ∷ sinkAll (sinking (fate (asRecord r L) (q .laid .item)) []) (q .laid .below)))
-        × (x ≡ outcome (asRecord r L) (fate (asRecord r L) (q .laid .item)))) ⌝ }
+        → Shown (now (b .exit)) (flat ((q .at .before ++ staying (fate (asRecord r L) (q .at .item)) (q .at .behind)) ∷ sinkAll (sinking (fate (asRecord r L) (q .at .item)) []) (q .at .below)))
+        × (x ≡ outcome (asRecord r L) (fate (asRecord r L) (q .at .item)))) ⌝ }
 {
     let s = slots::get(b, i);
     let held = s.held;
@@ -256,14 +248,15 @@ fn turn(b: &mut [u8], i: u32, z: u32, r: Record, mask: &[u8]) -> Outcome
     }
 }
 
-// From slot i on level 0's z slots meet their fates under r; those before it end before r. Answers r's place.
-fn fates(b: &mut [u8], from: u32, z: u32, r: Record, mask: &[u8]) -> u32
-    requires { ⌜ Parted (now b) (now mask) r × (length (now mask) ≡ 256) × (from ≤ z)
-        × ((q : Parted (now b) (now mask) r) → (z ≡ length (q .top)) × (all (endsBefore (r .start)) (take from (q .top)) ≡ true)) ⌝ }
+// The slots of level 0 meet their fates under r, but for those that end before it. Answers r's place.
+fn victims(b: &mut [u8], r: Record, mask: &[u8]) -> u32
+    requires { ⌜ Parted (now b) (now mask) r × (length (now mask) ≡ 256) ⌝ }
     ensures { λ p. ⌜ ((q : Parted (now (b .entry)) (now (mask .entry)) r) → MadeWay (asRecord r (q .owned)) (q .top) (q .rest) (now (b .exit)) p) ⌝ }
 {
-    let mut i = from;
-    let mut k = z - from;
+    let z = level_end(b);
+    let start = r.start;
+    let mut i = first_met(b, z, start);
+    let mut k = z - i;
     while 0 < k {
         match turn(b, i, i + k, r, mask) {
             Outcome::Passed => {
@@ -281,17 +274,6 @@ fn fates(b: &mut [u8], from: u32, z: u32, r: Record, mask: &[u8]) -> u32
         }
     }
     i
-}
-
-// The slots of level 0 meet their fates under r. Answers r's place.
-fn victims(b: &mut [u8], r: Record, mask: &[u8]) -> u32
-    requires { ⌜ Parted (now b) (now mask) r × (length (now mask) ≡ 256) ⌝ }
-    ensures { λ p. ⌜ ((q : Parted (now (b .entry)) (now (mask .entry)) r) → MadeWay (asRecord r (q .owned)) (q .top) (q .rest) (now (b .exit)) p) ⌝ }
-{
-    let z = level_end(b);
-    let start = r.start;
-    let from = first_met(b, z, start);
-    fates(b, from, z, r, mask)
 }
 
 // Every approximate record gives up the offsets of r, and levels that are left empty go.

@@ -10,7 +10,6 @@ use native.Mathlib.Nat.{mod-one}
 use lib.IntN.{ℤ}
 use borrow.Author.Tests.{eqb-true}
 use Rattle.model.specs.Lists.{elem}
-use Rattle.model.specs.Record as model
 use Rattle.model.specs.Record.{kindOf, isApproximate, member}
 use Rattle.model.specs.Levels.{shrink}
 use Rattle.record.specs.declared.Record.{Record}
@@ -29,7 +28,7 @@ use Rattle.group.proofs.Ends.{owned-by}
 use Rattle.group.proofs.Shapes.{owned-approx, owned-other}
 use Rattle.slots.specs.Owners.{ownerIs, leftTo, handedOn, startLeft, owning}
 use Rattle.slots.specs.View.{Room, OwnersPut, OwnsInRange, LeftOf}
-use Rattle.slots.proofs.Owning.{left-other, on-other, owner-sloped, owner-exact}
+use Rattle.slots.proofs.Owning.{left-other, on-other, owner-sloped, owner-exact, owner-other}
 use Rattle.slots.proofs.OwnerPasses.{all-put}
 
 -- some slot of the record
@@ -96,7 +95,7 @@ module _ (r : Record) (slope : isApproximate (kindOf (r .word)) ≡ true) where
     room = room;
     slots = refl;
     flag = refl;
-    owners = λ o h. sym (owner-sloped r Gone (masked taken o) (ownerOf s o) slope ∙ on-other (r .start) (masked taken o) (startLeft Gone) (ownerOf s o) (unnamed o));
+    owners = λ o h. sym (owner-other r Gone (masked taken o) (ownerOf s o) (λ a. unnamed o));
   }
     where
       unnamed : (o : ℕ) → ownerOf s o ≡ suc (r .start) → ⊥

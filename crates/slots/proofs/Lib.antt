@@ -5,7 +5,6 @@ pub mod SlotWrites
 pub mod Shifts
 pub mod OwnerPasses
 pub mod OwnerWrites
-pub mod Behind
 pub mod Owning
 pub mod SlotPass
 pub mod Leaving

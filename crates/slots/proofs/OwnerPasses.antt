@@ -6,8 +6,11 @@ use Prim.Native.Nat.{ℕ, _+_, _≤_, _<_}
 use native.Mathlib.Omega.{arith}
 use lib.Dec.{leb, ltb, eqb}
 use borrow.Author.Tests.{eqb-true, eqb-false, leb-true, leb-false, ltb-true, ltb-false}
-use Rattle.group.specs.Layout.{offsets, ownerOf}
-use Rattle.slots.specs.View.{Room, Owned, OwnerPut, OwnersPut}
+use Rattle.model.proofs.Bools.{is-false}
+use Rattle.record.specs.Scan.{masked}
+use Rattle.group.specs.Layout.{offsets, slotsOf, ownerOf}
+use Rattle.slots.specs.Owners.{either, takenBy}
+use Rattle.slots.specs.View.{Room, Shows, Owned, OwnerPut, OwnersPut}
 
 -- the owners of the offsets from `first` to before o are new, those up to `end` are left
 pub record Passing (f : ℕ → ℕ → ℕ) (s t : List ℕ) (first end o : ℕ) : Type 0 where
@@ -64,3 +67,16 @@ all-put f s t {first} {end} put same o h = go (leb first o) (ltb o end) refl ref
     go true true i j = put .there o (leb-true _ _ i) (ltb-true _ _ j)
     go false b i j = let n : first ≤ o → o < end → ⊥ = λ l m. omega (arith, leb-false first o i) in put .others o n ∙ sym (same o h n)
     go true false i j = let n : first ≤ o → o < end → ⊥ = λ l m. omega (arith, ltb-false o end j) in put .others o n ∙ sym (same o h n)
+
+-- the offsets of a mask, which lie in a range, are given to a record
+pub given-shows : (s t u m : List ℕ) (start end : ℕ) → Shows t (slotsOf s) (ownerOf s) → OwnersPut (λ o w. takenBy start (masked m o) w) t u start end
+    → ((o : ℕ) → o < offsets → masked m o ≡ true → (start ≤ o) × (o < end)) → Shows u (slotsOf s) (λ o. takenBy start (masked m o) (ownerOf s o))
+unfolding takenBy either
+given-shows s t u m start end opened put inside = (
+  put .room .0,
+  put .slots ∙ opened .1,
+  λ o h. all-put _ t u put (λ k i n. rw (untaken k i n, takenBy, either)) o h ∙ ap (takenBy start (masked m o)) (opened .2 o h),
+)
+  where
+    untaken : (o : ℕ) → o < offsets → (start ≤ o → o < end → ⊥) → masked m o ≡ false
+    untaken o h n = is-false (masked m o) (λ e. n (inside o h e .0) (inside o h e .1))

@@ -16,37 +16,16 @@ use Rattle.bytes.proofs.ReadWrite.{length-bytes2, le16-same, le16-stored}
 use Rattle.group.specs.Layout.{offsets, usedPlace, flagPlace, slotsPlace, ownersPlace, ownerPlace, flagOf, slotsOf, entryOf, ownerOf}
 use Rattle.group.proofs.Cases.{owner-none, owner-entry}
 use Rattle.slots.specs.View.{Room, Shows, Owned, OwnerPut, OwnersPut}
-use Rattle.slots.proofs.Reading.{slotsLength, entriesLength, slots-kept, flag-same, entries-kept, owner-same}
-
--- the flag became v; all else is as before
-pub record Flagged (s t : List ℕ) (v : ℕ) : Type 0 where
-  pub room : Room t
-  pub slots : slotsOf t ≡ slotsOf s
-  pub flag : flagOf t ≡ v
-  pub entries : (o : ℕ) → o < offsets → entryOf t o ≡ entryOf s o
+use Rattle.slots.proofs.Reading.{slotsLength, slots-kept, flag-same, owner-same}
 
 -- the flag is stored
-pub flag-stored : (s t : List ℕ) (v : ℕ) → Room s → v < 65536 → t ≡ store s flagPlace (bytes2 v) → Flagged s t v
+pub flag-stored : (s t : List ℕ) (v : ℕ) → Room s → v < 65536 → t ≡ store s flagPlace (bytes2 v) → Room t × (slotsOf t ≡ slotsOf s) × (flagOf t ≡ v)
 unfolding groupLength flagOf
 flag-stored s t v room small e =
     let two = length-bytes2 v in
     let long : length (store s flagPlace (bytes2 v)) ≡ groupLength = length-store s flagPlace (bytes2 v) ∙ room .0 in
-    let above : (n q : ℕ) → slotsPlace ≤ q → Same n (store s flagPlace (bytes2 v)) q s q = λ n q h. stored-above n s flagPlace (bytes2 v) q (omega arith) in
-    let kept : slotsOf (store s flagPlace (bytes2 v)) ≡ slotsOf s = slots-kept room long (stored-below 2 s flagPlace (bytes2 v) usedPlace (omega arith)) (above slotsLength slotsPlace (omega arith)) in
-    rw e (record {
-      room = (long, rw kept (room .1));
-      slots = kept;
-      flag = le16-stored s flagPlace v (omega arith) small;
-      entries = entries-kept (above entriesLength ownersPlace (omega arith));
-    })
-
--- the entry of offset o became w; all else is as before
-record Entered (s t : List ℕ) (o w : ℕ) : Type 0 where
-  room : Room t
-  slots : slotsOf t ≡ slotsOf s
-  flag : flagOf t ≡ flagOf s
-  there : entryOf t o ≡ w
-  others : (k : ℕ) → (k ≡ o → ⊥) → entryOf t k ≡ entryOf s k
+    let kept : slotsOf (store s flagPlace (bytes2 v)) ≡ slotsOf s = slots-kept room long (stored-below 2 s flagPlace (bytes2 v) usedPlace (omega arith)) (stored-above slotsLength s flagPlace (bytes2 v) slotsPlace (omega arith)) in
+    rw e ((long, rw kept (room .1)), kept, le16-stored s flagPlace v (omega arith) small)
 
 -- the entry of offset o is stored
 module _ (s : List ℕ) (o w : ℕ) (room : Room s) (inside : o < offsets) (small : w < 65536) where
@@ -65,35 +44,25 @@ module _ (s : List ℕ) (o w : ℕ) (room : Room s) (inside : o < offsets) (smal
           let m : o < k = omega arith in
           stored-above 2 s (ownerPlace o) (bytes2 w) (ownerPlace k) (omega arith)
 
-  entry-stored : (t : List ℕ) → t ≡ store s (ownerPlace o) (bytes2 w) → Entered s t o w
+  -- it is the owner where the flag is set
+  pub owner-stored : (t : List ℕ) → Owned s → t ≡ store s (ownerPlace o) (bytes2 w) → OwnerPut s t o w
   unfolding groupLength entryOf
-  entry-stored t e =
+  owner-stored t on e =
       let long : length entered ≡ groupLength = length-store s (ownerPlace o) (bytes2 w) ∙ room .0 in
       let below : (n q : ℕ) → q + n ≤ ownersPlace → Same n entered q s q = λ n q h. stored-below n s (ownerPlace o) (bytes2 w) q (omega arith) in
       let kept : slotsOf entered ≡ slotsOf s = slots-kept room long (below 2 usedPlace (omega arith)) (below slotsLength slotsPlace (omega arith)) in
+      let flag : flagOf entered ≡ flagOf s = flag-same (below 2 flagPlace (omega arith)) in
       rw e (record {
         room = (long, rw kept (room .1));
         slots = kept;
-        flag = flag-same (below 2 flagPlace (omega arith));
-        there = le16-stored s (ownerPlace o) w (omega arith) small;
-        others = entry-other;
+        flag = flag;
+        there = owner-entry entered o (λ z. omega arith) ∙ le16-stored s (ownerPlace o) w (omega arith) small;
+        others = λ k n. owner-same s entered k flag (entry-other k n);
       })
 
-  -- the entry is the owner where the flag is set
-  pub owner-stored : (t : List ℕ) → Owned s → t ≡ store s (ownerPlace o) (bytes2 w) → OwnerPut s t o w
-  owner-stored t on e =
-      let r = entry-stored t e in
-      record {
-        room = r .room;
-        slots = r .slots;
-        flag = r .flag;
-        there = owner-entry t o (λ z. omega (arith, r .flag)) ∙ r .there;
-        others = λ k n. owner-same s t k (r .flag) (r .others k n);
-      }
-
 -- the flag set where it was 0, and every owner cleared: no offset had one
-pub opened : (s t u : List ℕ) → flagOf s ≡ 0 → Flagged s t 1 → OwnersPut (λ o w. 0) t u 0 offsets → Shows u (slotsOf s) (ownerOf s) × Owned u
+pub opened : (s t u : List ℕ) → flagOf s ≡ 0 → Room t × (slotsOf t ≡ slotsOf s) × (flagOf t ≡ 1) → OwnersPut (λ o w. 0) t u 0 offsets → Shows u (slotsOf s) (ownerOf s) × Owned u
 opened s t u off on put = (
-  (put .room .0, put .slots ∙ on .slots, λ o h. put .there o (omega arith) h ∙ sym (owner-none s o off)),
-  omega (arith, put .flag, on .flag),
+  (put .room .0, put .slots ∙ on .1, λ o h. put .there o (omega arith) h ∙ sym (owner-none s o off)),
+  omega (arith, put .flag, on .2),
 )

@@ -65,7 +65,7 @@ owner-same s t o f e =
     ap (λ (x : ℕ). elim (eqb x 0) [ true ↦ 0 | false ↦ entryOf t o ]) f
     ∙ ap (λ (x : ℕ). elim (eqb (flagOf s) 0) [ true ↦ 0 | false ↦ x ]) e
 
--- what is read from bytes that are alike: the number of used slots, the slots themselves, the flag, the entries, the owners
+-- what is read from bytes that are alike: the number of used slots, the slots themselves, the flag, the owners
 module _ {s t : List ℕ} where
   pub used-same : Same 2 t usedPlace s usedPlace → usedOf t ≡ usedOf s
   unfolding usedOf
@@ -83,12 +83,9 @@ module _ {s t : List ℕ} where
   unfolding flagOf
   flag-same a = le16-same a
 
-  pub entries-kept : Same entriesLength t ownersPlace s ownersPlace → (o : ℕ) → o < offsets → entryOf t o ≡ entryOf s o
-  unfolding entryOf
-  entries-kept a o h = le16-same (same-inner (o * ownerWidth) ownerWidth (omega arith) a)
-
   pub owners-kept : Same 2 t flagPlace s flagPlace → Same entriesLength t ownersPlace s ownersPlace → (o : ℕ) → o < offsets → ownerOf t o ≡ ownerOf s o
-  owners-kept a k o h = owner-same s t o (flag-same a) (entries-kept k o h)
+  unfolding entryOf
+  owners-kept a k o h = owner-same s t o (flag-same a) (le16-same (same-inner (o * ownerWidth) ownerWidth (omega arith) k))
 
 -- bytes that show no more slots than a group has have room
 pub shown-room : {l : List Slot} {w : ℕ → ℕ} (t : List ℕ) → Shows t l w → length l ≤ groupLimit → Room t

@@ -1,12 +1,12 @@
--- A pass over the used slots that changes them one by one, from slot j on: what is left to change makes the whole change, and
--- the owners stay. Assumes nothing.
-use mathlib.Core.Path.{_≡_, refl, sym, _∙_}
+-- A pass over a list that changes its elements one by one, from one place on: what is left to change makes the whole change. So over the
+-- used slots, whose owners stay. Assumes nothing.
+use mathlib.Core.Path.{_≡_, refl, sym, ap, _∙_}
 use mathlib.Core.List.{List, [], _∷_}
 use mathlib.Core.Bool.{true}
 use Prim.Native.Nat.{ℕ, zero, suc, _+_, _≤_, _<_}
 use native.Mathlib.Omega.{arith}
 use native.Mathlib.Numerals.{add-one}
-use lib.ListN.{length, getD, length-set}
+use lib.ListN.{length, getD, set, length-set}
 use lib.Seq.{getD-set-other}
 use borrow.Author.Tests.{ltb-true}
 use Rattle.model.specs.Lists.{all}
@@ -16,7 +16,36 @@ use Rattle.group.specs.Layout.{offsets, slotsOf, ownerOf}
 use Rattle.group.specs.Answers.{noSlot}
 use Rattle.slots.specs.View.{Room, Shows}
 use Rattle.slots.specs.Edits.{replaceAt, atLevel, pushDownFrom, canGoDown, renumbered, renumberLevels}
-use Rattle.slots.proofs.Behind.{behindFirst, behind-end, behind-turn}
+
+-- the first i elements, and behind them what f makes of the others
+unfoldable pub behindFirst : {A : Type 0} → ℕ → (List A → List A) → List A → List A
+behindFirst zero f l = f l
+behindFirst (suc i) f [] = []
+behindFirst (suc i) f (x ∷ l) = x ∷ behindFirst i f l
+
+module _ {A : Type 0} (d : A) (f : List A → List A) where
+  -- nothing stands there
+  pub behind-end : (i : ℕ) (l : List A) → f [] ≡ [] → length l ≤ i → behindFirst i f l ≡ l
+  unfolding behindFirst
+  behind-end zero [] e h = e
+  behind-end zero (x ∷ l) e h = absurd (let z : ⊥ = omega arith in z)
+  behind-end (suc i) [] e h = refl
+  behind-end (suc i) (x ∷ l) e h = ap (λ (m : List A). x ∷ m) (behind-end i l e (omega arith))
+
+  -- the element there becomes y, and then g changes those behind it
+  behind-turn : (g : List A → List A) (y : A) (i : ℕ) (l : List A) → i < length l → ((m : List A) → f (getD l i d ∷ m) ≡ y ∷ g m)
+      → behindFirst (suc i) g (set l i y) ≡ behindFirst i f l
+  unfolding behindFirst
+  behind-turn g y i [] h e = absurd (let z : ⊥ = omega arith in z)
+  behind-turn g y zero (x ∷ l) h e = sym (e l)
+  behind-turn g y (suc i) (x ∷ l) h e = ap (λ (m : List A). x ∷ m) (behind-turn g y i l (omega arith) e)
+
+-- slots are pushed down from one place on
+pub push-behind : (i : ℕ) (l : List Slot) → behindFirst i (pushDownFrom 0) l ≡ pushDownFrom i l
+unfolding behindFirst pushDownFrom
+push-behind zero l = refl
+push-behind (suc i) [] = refl
+push-behind (suc i) (x ∷ l) = ap (λ (m : List Slot). x ∷ m) (push-behind i l)
 
 -- from s to t, where f of the slots from j on of n still is to make the slots l
 pub record Changing (f : List Slot → List Slot) (l : List Slot) (s t : List ℕ) (n j : ℕ) : Type 0 where

@@ -12,11 +12,8 @@ use borrow.Author.Needs.{needs}
 use Rattle.insertion.proofs.clear_way.Statement.{statement}
 use Rattle.insertion.proofs.clear_way.Tie as tie
 
-flag-requires : tie.Need-flag-requires
-flag-requires c κs = c .before .before .before .pre .size
-
 returns : tie.Need-returns
-returns c = λ q. unowned-settled _ _ _ q (λ o h t. owner-none _ o (sym (c .before .flag .ensures) ∙ c .if1 .taken))
+returns c = λ q. unowned-settled _ _ _ q (λ o h t p. omega (arith, owner-none _ o (sym (c .before .flag .ensures) ∙ c .if1 .taken)))
 
 add-mark : tie.Need-add-mark
 add-mark c = record { fits = omega (arith, record-short _ _ _ (c .before .before .before .before .before .before .before .pre)) }
@@ -50,6 +47,6 @@ returns-4 : tie.Need-returns-4
 returns-4 c = λ q. shown-renumbered _ _ _ (c .before .before .before .before .before .before .before .give-up-all .ensures (flat (q .group)) (ready-shown _ _ _ q) .0) (c .before .before .renumber-levels .ensures)
 
 pub clear-way-spec : {M : Type 1} → statement M
-clear-way-spec = tie.close (tie.spec flag-requires (λ c. search needs) returns add-mark add-mark-2 (λ c. search needs) mark-requires
+clear-way-spec = tie.close (tie.spec (λ c κs. search needs) (λ c. search needs) returns add-mark add-mark-2 (λ c. search needs) mark-requires
     (λ c. search needs) returns-2 (λ c κs. search needs) (λ c. search needs) give-up-all-requires (λ c. search needs) returns-3
     renumber-levels-requires (λ c. search needs) returns-4)

@@ -24,18 +24,18 @@ give-up-requires c κs =
     let start = c .before .before .before .before .before .before .before .before in
     let head = c .before .before .loop .inv in
     let g = head .1 (start .pre .0 .list) (start .pre .0 .shown) in
-    (record { list = _; shown = g .shown }, giving-inside _ _ _ _ _ (c .before .loop-test .taken) g, start .pre .1, start .pre .2, head .0)
+    (record { list = _; shown = g .shown }, giving-inside _ _ _ _ _ g (c .before .loop-test .taken), start .pre .1, start .pre .2, head .0)
 
 loop-again : tie.Need-loop-again Inv-loop μ-loop
 loop-again c =
     let step = c .before .before .give-up .ensures in
-    (step .0, λ l shown. giving-turn _ l _ _ _ _ _ (c .before .before .before .before .loop-test .taken) (c .before .before .before .before .before .loop .inv .1 l shown) (step .1))
+    (step .0, λ l shown. giving-turn _ l _ _ _ (c .before .before .before .before .before .loop .inv .1 l shown) (c .before .before .before .before .loop-test .taken) _ _ (step .1))
 
 same-length : tie.Need-same-length Inv-loop μ-loop
 same-length c = let start = c .before .before .before .before .before .before .before in c .before .loop .inv .1 (start .pre .0 .list) (start .pre .0 .shown) .shown .size ∙ sym (start .pre .0 .shown .size)
 
 returns : tie.Need-returns Inv-loop μ-loop
-returns c = λ l shown. giving-end _ l _ _ _ (c .loop-test .left) (c .before .loop .inv .1 l shown)
+returns c = λ l shown. giving-end _ l _ _ _ (c .before .loop .inv .1 l shown) (c .loop-test .left)
 
 pub give-up-all-spec : {M : Type 1} → statement M
 give-up-all-spec = tie.close (tie.spec Inv-loop μ-loop (λ c κs. search needs) loop-holds

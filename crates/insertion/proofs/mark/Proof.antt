@@ -2,7 +2,7 @@
 use borrow.Author.Needs.{needs}
 use native.Mathlib.Omega.{arith}
 use Prim.Native.Nat.{_-_}
-use Rattle.insertion.proofs.Marks.{Tallied, tally-start, tally-low, tally-turn, tally-end}
+use Rattle.insertion.proofs.Marks.{Tallied, tally-start, tally-low, tally-inside, tally-turn, tally-end}
 use Rattle.insertion.proofs.mark.Statement.{statement}
 use Rattle.insertion.proofs.mark.Tie as tie
 
@@ -13,20 +13,18 @@ abbrev μ-loop : tie.MeasureT-loop
 μ-loop b start end mask losers₀ any₀ o₀ losers any o = end - o
 
 slice-write-losers : tie.Need-slice-write-losers Inv-loop μ-loop
-slice-write-losers c =
-    let so = c .before .before .before .before .loop .inv in
-    let low = tally-low _ _ _ _ _ _ _ _ so (c .before .before .owner .ensures .0) (c .before .before .before .before .before .before .before .before .pre .5 _ (omega arith)) (c .if-taken .ensures) in
-    omega (arith, so .size)
+slice-write-losers c = tally-inside _ _ _ _ _ _ _ _ (c .before .before .before .before .loop .inv) (omega arith) (c .before .before .before .before .before .before .before .before .pre .5) (c .before .before .owner .ensures .0) (c .if-taken .ensures)
 
 add-any : tie.Need-add-any Inv-loop μ-loop
 add-any c =
     let so = c .before .before .before .before .loop .inv in
-    let low = tally-low _ _ _ _ _ _ _ _ so (c .before .before .owner .ensures .0) (c .before .before .before .before .before .before .before .before .pre .5 _ (omega arith)) (c .if-taken .ensures) in
+    let low = tally-low _ _ _ _ _ _ _ _ so (omega arith) (c .before .before .before .before .before .before .before .before .pre .5) (c .before .before .owner .ensures .0) (c .if-taken .ensures) in
     record { fits = omega (arith, so .sum) }
 
 loop-again : tie.Need-loop-again Inv-loop μ-loop
-loop-again c = tally-turn _ _ _ _ _ _ _ _ (c .before .before .before .before .loop .inv) (c .before .before .owner .ensures .0) (c .before .before .before .before .before .before .before .before .pre .5 _ (omega arith)) (c .if-taken .ensures)
+loop-again c = tally-turn _ _ _ _ _ _ _ _ (c .before .before .before .before .loop .inv) (omega arith) (c .before .before .before .before .before .before .before .before .pre .5) (c .before .before .owner .ensures .0) (c .if-taken .ensures)
 
 pub mark-spec : {M : Type 1} → statement M
 mark-spec = tie.close (tie.spec Inv-loop μ-loop (λ c. search (tally-start, needs)) (λ c κs. search needs) (λ c. omega arith) (λ c. omega arith)
-    (λ c κs. search needs) (λ c. omega arith) slice-write-losers add-any (λ c. omega arith) (λ c. omega arith) loop-again (λ c. search needs) (λ c. search (tally-end, needs)))
+    (λ c κs. search needs) (λ c. omega arith) slice-write-losers add-any (λ c. omega arith) (λ c. omega arith)
+    loop-again (λ c. search needs) (λ c. search (tally-end, needs)))

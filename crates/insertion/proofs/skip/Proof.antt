@@ -1,13 +1,12 @@
 -- `skip` meets its contract: at each turn the slots from z to before j are ahead.
 use borrow.Author.Needs.{needs}
-use mathlib.Core.Path.{_≡_, sym, _∙_}
+use mathlib.Core.Path.{_≡_}
 use native.Mathlib.Omega.{arith}
-use Prim.Native.Nat.{_+_, _-_, _≤_, _<_}
+use Prim.Native.Nat.{_+_, _-_, _≤_}
 use lib.ListN.{length, drop}
-use borrow.Author.Tests.{not-true, not-false}
 use Rattle.group.specs.Layout.{slotsOf}
 use Rattle.insertion.specs.Turns.{countAhead}
-use Rattle.insertion.proofs.Searches.{ahead-more, ahead-stop, ahead-none}
+use Rattle.insertion.proofs.Searches.{ahead-more, ahead-other, ahead-stop, ahead-none}
 use Rattle.insertion.proofs.skip.Statement.{statement}
 use Rattle.insertion.proofs.skip.Tie as tie
 
@@ -19,26 +18,25 @@ abbrev μ-loop : tie.MeasureT-loop
 
 returns : tie.Need-returns Inv-loop μ-loop
 returns c =
-    let so = c .before .before .before .before .loop .inv in
-    let start = c .before .before .before .before .before .before .before in
-    let inside : c .before .before .before .before .loop .j < length (slotsOf (start .args .b .now)) = omega (arith, c .before .before .before .before .before .used .ensures .1) in
-    let none = ahead-stop (start .args .start) (slotsOf (start .args .b .now)) (c .before .before .before .before .loop .j) (c .before .before .get .result) inside (c .before .before .get .ensures .0) (sym (c .before .is-ahead .ensures) ∙ not-true (c .before .is-ahead .result) (c .if1 .taken)) in
-    (so .0, omega (arith, so .1, none))
-
-loop-again : tie.Need-loop-again Inv-loop μ-loop
-loop-again c =
-    let so = c .before .before .before .before .loop .inv in
-    let n = c .before .before .before .before .before .used .ensures .1 in
-    (omega (arith, n), so .1 ∙ ahead-more _ _ _ _ (omega (arith, n)) (c .before .before .get .ensures .0) (sym (c .before .is-ahead .ensures) ∙ not-false (c .before .is-ahead .result) (c .if1 .left)))
+    let head = c .before .before .before .before in
+    (head .loop .inv .0, ahead-other _ _ _ (omega (arith, head .before .used .ensures .1)) (c .before .before .get .ensures .0) _ _ (head .loop .inv .1) (c .if1 .taken))
 
 returns-2 : tie.Need-returns-2 Inv-loop μ-loop
 returns-2 c =
-    let so = c .before .loop .inv in
-    let start = c .before .before .before .before in
-    let behind : length (slotsOf (start .args .b .now)) ≤ c .before .loop .j = omega (arith, c .before .before .used .ensures .1) in
-    let none = ahead-none (slotsOf (start .args .b .now)) (c .before .loop .j) behind (start .args .start) in
-    (so .0, omega (arith, so .1, none))
+    let got = c .before .before .before .before .before in
+    let head = got .before .before in
+    (head .loop .inv .0, ahead-stop _ _ _ (omega (arith, head .before .used .ensures .1)) (got .get .ensures .0) _ _ (head .loop .inv .1) (c .before .before .before .if1 .left) (c .if2 .taken))
+
+loop-again : tie.Need-loop-again Inv-loop μ-loop
+loop-again c =
+    let got = c .before .before .before .before .before in
+    let head = got .before .before in
+    let n = head .before .used .ensures .1 in
+    (omega (arith, n), ahead-more _ _ _ (omega (arith, n)) (got .get .ensures .0) _ _ (head .loop .inv .1) (c .before .before .before .if1 .left) (c .if2 .left))
+
+returns-3 : tie.Need-returns-3 Inv-loop μ-loop
+returns-3 c = let so = c .before .loop .inv in (so .0, ahead-none _ _ (omega (arith, c .before .before .used .ensures .1)) _ _ (so .1))
 
 pub skip-spec : {M : Type 1} → statement M
-skip-spec = tie.close (tie.spec Inv-loop μ-loop (λ c κs. search needs) (λ c. search needs) (λ c κs. search needs) (λ c κs. search needs)
-    returns (λ c. omega arith) (λ c. omega arith) loop-again returns-2)
+skip-spec = tie.close (tie.spec Inv-loop μ-loop (λ c κs. search needs) (λ c. search needs) (λ c κs. search needs) returns (λ c. search needs) returns-2
+    (λ c. omega arith) (λ c. omega arith) loop-again returns-3)

@@ -1,5 +1,4 @@
 -- `get` meets its contract: a used slot, read in its place.
-use mathlib.Core.Path.{sym, _∙_}
 use Rattle.group.proofs.Slots.{getD-slotsOf}
 use borrow.Author.Needs.{needs}
 use Rattle.slots.proofs.get.Statement.{statement}

@@ -1,6 +1,4 @@
 -- `level` meets its contract: the level of a used slot.
-use mathlib.Core.Path.{sym, ap, _∙_}
-use Rattle.group.specs.declared.Slot.{Slot}
 use Rattle.group.specs.Layout.{slotOf}
 use Rattle.group.proofs.Slots.{getD-slotsOf}
 use borrow.Author.Needs.{needs}

@@ -1,12 +1,10 @@
 -- `push_down` meets its contract: at each turn the slots from j on are left to push down.
 use borrow.Author.Needs.{needs}
-use Rattle.slots.proofs.SlotPass.{Changing, change-start, change-turn, change-end, Lowerable, down-start, down-turn, push-one}
+use Rattle.slots.proofs.SlotPass.{push-behind, Changing, change-start, change-turn, change-end, Lowerable, down-start, down-turn, push-one}
 use native.Mathlib.Omega.{arith}
 use Prim.Native.Nat.{_-_}
-use mathlib.Core.Path.{refl, sym, _∙_}
 use Rattle.group.specs.Layout.{slotsOf}
 use Rattle.slots.specs.Edits.{pushDownFrom}
-use Rattle.slots.proofs.Behind.{push-behind}
 use Rattle.slots.proofs.push_down.Statement.{statement}
 use Rattle.slots.proofs.push_down.Tie as tie
 

@@ -2,11 +2,9 @@
 use borrow.Author.Needs.{needs}
 use native.Mathlib.Omega.{arith}
 use Prim.Native.Nat.{_-_, _≤_}
-use mathlib.Core.Path.{refl, sym, _∙_}
 use Rattle.group.specs.Layout.{slotsOf}
 use Rattle.slots.specs.Edits.{renumberLevels}
-use Rattle.slots.proofs.Behind.{behindFirst}
-use Rattle.slots.proofs.SlotPass.{Changing, change-start, change-turn, change-end, renumber-one}
+use Rattle.slots.proofs.SlotPass.{behindFirst, Changing, change-turn, change-end, renumber-one}
 use Rattle.slots.proofs.renumber_levels.Statement.{statement}
 use Rattle.slots.proofs.renumber_levels.Tie as tie
 

@@ -1,5 +1,4 @@
 -- `used` meets its contract: the number of used slots is the length of their list.
-use mathlib.Core.Path.{sym, _∙_}
 use Rattle.group.proofs.Slots.{length-slotsOf}
 use borrow.Author.Needs.{needs}
 use Rattle.slots.proofs.used.Statement.{statement}

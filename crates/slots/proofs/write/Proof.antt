@@ -1,6 +1,5 @@
 -- `write` meets its contract: the record and the level behind it are one store.
 use Rattle.model.specs.Device.{groupLength}
-use native.Mathlib.Omega.{arith}
 use Rattle.slots.proofs.Ten.{ten-stored}
 use borrow.Author.Needs.{needs}
 use Rattle.slots.proofs.write.Statement.{statement}

@@ -11,7 +11,7 @@ clear-requires : tie.Need-clear-requires
 clear-requires c κs =
     let start = c .before .before .before .before .before .before .before .before .before in
     let set = flag-stored _ _ _ (start .pre) (omega arith) (c .before .before .before .put-u16 .ensures) in
-    (set .room, omega (arith, set .flag))
+    (set .0, omega (arith, set .2))
 
 returns-2 : tie.Need-returns-2
 returns-2 c =

@@ -1,16 +1,10 @@
 -- `own` meets its contract: owners are read, and the pass over the range names those of the mask.
 use native.Mathlib.Omega.{arith}
-use Rattle.slots.proofs.Owning.{given-shows}
+use Rattle.slots.proofs.OwnerPasses.{given-shows}
 use Rattle.slots.proofs.Reading.{shown-room}
 use borrow.Author.Needs.{needs}
 use Rattle.slots.proofs.owners.own.Statement.{statement}
 use Rattle.slots.proofs.owners.own.Tie as tie
-
-own-from-requires : tie.Need-own-from-requires
-own-from-requires c κs =
-    let start = c .before .before .before .before .before .before .before .before in
-    let opened = c .before .before .before .before .open-owners .ensures in
-    (shown-room _ (opened .0) (start .pre .0 .1), opened .1, omega arith, omega (arith, start .pre .1), omega (arith, start .pre .1), start .pre .2)
 
 returns : tie.Need-returns
 returns c =
@@ -19,5 +13,5 @@ returns c =
     (λ o h e. let range = start .pre .3 o h e in (range .0, omega (arith, range .1)))
 
 pub own-spec : {M : Type 1} → statement M
-own-spec = tie.close (tie.spec (λ c κs. search needs) (λ c. search needs) (λ c. search needs) own-from-requires
+own-spec = tie.close (tie.spec (λ c κs. search needs) (λ c. search needs) (λ c. search needs) (λ c κs. search (shown-room, needs))
     (λ c. search needs) returns)
