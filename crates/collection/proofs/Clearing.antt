@@ -6,7 +6,7 @@ use lib.ListN.{length, getD, set, drop, drop-of-length-le}
 use Rattle.model.specs.Lists.{store}
 use Rattle.model.specs.Device.{Device}
 use Rattle.model.specs.Spare.{erase}
-use Rattle.model.specs.Learning.{Write}
+use Rattle.model.specs.Learning.{Write, sources}
 use Rattle.model.specs.State.{State, withCounts}
 use Rattle.calls.specs.Outcome.{Lent, collected}
 use Rattle.calls.specs.Flush.{writeState, writeBlock}
@@ -54,24 +54,27 @@ unfolding moveAll writeBlock writeState
 moved-shape d [] x h = h
 moved-shape d (w ∷ ws) x h = shaped-groups d _ _ (shaped-counts d _ (x .state) h)
 
--- The state is shaped as before when the moves are written.
-pub written-shape : (d : Device) (s s′ : State) (spare spare′ plan plan′ : List ℕ) (ws : List Write) → Shaped d s
-    → ((erased : List ℕ) → lend s′ spare′ plan′ erased ≡ moveAll ws (lend s spare plan erased)) → Shaped d s′
+-- state s′ and spare area spare′ are what writing the moves leaves of s and spare, whatever the lists: the plan has the sources
+abbrev pub Moving : State → List ℕ → List Write → State → List ℕ → Type 0
+Moving s spare ws s′ spare′ = (plan erased : List ℕ) → lend s′ spare′ (store plan 0 (sources ws)) erased ≡ moveAll ws (lend s spare plan erased)
+
+-- The state is shaped as before.
+pub written-shape : (d : Device) (s s′ : State) (spare spare′ : List ℕ) (ws : List Write) → Shaped d s → Moving s spare ws s′ spare′ → Shaped d s′
 unfolding lend
-written-shape d s s′ spare spare′ plan plan′ ws h e =
-    let q : s′ ≡ moveAll ws (lend s spare plan []) .state = ap (λ (x : Lent). x .state) (e []) in
-    rw q (moved-shape d ws (lend s spare plan []) h)
+written-shape d s s′ spare spare′ ws h e =
+    let q : s′ ≡ moveAll ws (lend s spare [] []) .state = ap (λ (x : Lent). x .state) (e [] []) in
+    rw q (moved-shape d ws (lend s spare [] []) h)
 
 -- Moves written, blocks erased: the collection, whatever the list that the blocks are in front of.
-module _ (s s₁ s₂ : State) (spare spare₁ spare₂ plan plan₁ bs : List ℕ)
-    (moved : (erased : List ℕ) → lend s₁ spare₁ plan₁ erased ≡ moveAll (moves s spare) (lend s spare plan erased))
-    (taken : bs ≡ blocksOf (victims s spare))
+module _ (s s₁ s₂ : State) (spare spare₁ spare₂ plan plan₁ bs : List ℕ) (moved : Moving s spare (moves s spare) s₁ spare₁)
+    (planned : plan₁ ≡ store plan 0 (sources (moves s spare))) (taken : bs ≡ blocksOf (victims s spare))
     (cleared : (plan erased : List ℕ) → lend s₂ spare₂ plan erased ≡ eraseBlocks bs (lend s₁ spare₁ plan erased))
     (erased : List ℕ) where
   pub collection-left : lend s₂ spare₂ plan₁ (store erased 0 bs) ≡ collectDone (lend s spare plan erased) .after
   unfolding collectDone listErased lend
   collection-left =
-      ap (listErased bs) (cleared plan₁ erased ∙ ap (eraseBlocks bs) (moved erased))
+      ap (λ (l : List ℕ). listErased bs (lend s₂ spare₂ l erased)) planned
+      ∙ ap (listErased bs) (cleared _ erased ∙ ap (eraseBlocks bs) (moved plan erased))
       ∙ ap (λ (ks : List ℕ). listErased ks (eraseBlocks ks (moveAll (moves s spare) (lend s spare plan erased)))) taken
 
   pub collection-answer : (first n : ℕ) → first ≡ firstMoved (moves s spare) s → n ≡ length (moves s spare)

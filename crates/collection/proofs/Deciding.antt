@@ -1,6 +1,6 @@
 -- 8 and 6 by the number of the blocks that are taken and of their pages, and what a decided collection says. Assumes nothing.
 use mathlib.Core.Path.{_≡_, refl, sym, ap, _∙_}
-use mathlib.Core.List.{List, [], _∷_}
+use mathlib.Core.List.{List, [], _∷_, map}
 use mathlib.Core.Option.{Option, none, some}
 use mathlib.Core.Bool.{Bool, true, false, not, _&&_}
 use Prim.Native.Nat.{ℕ, _≤_, _<_}
@@ -9,10 +9,13 @@ use lib.Dec.{ltb, eqb}
 use lib.ListN.{length, length-append}
 use borrow.Author.Tests.{lt-ltb, le-ltb, eq-eqb, ne-eqb}
 use Rattle.model.specs.Lists.{store}
+use Rattle.model.specs.Spare.{middle}
+use Rattle.model.specs.Learning.{Write, sort}
 use Rattle.model.specs.State.{State, freeBlocks}
 use Rattle.model.specs.Sound.{isEmpty}
+use Rattle.model.proofs.Sorting.{sort-filled}
 use Rattle.calls.specs.Refusals.{Refusal, noFreeBlock, nothingToGain, firstRefusal}
-use Rattle.calls.specs.Choice.{Used, blocksOf, pagesOf, noGain}
+use Rattle.calls.specs.Choice.{Used, blocksOf, pagesOf, noGain, copyBy, movesBy}
 use Rattle.calls.specs.Collection.{victims, moves}
 use Rattle.calls.proofs.Refusing.{refuses-at, is-clear}
 use Rattle.state.specs.declared.answers.Refusal as code
@@ -64,9 +67,19 @@ module _ (s : State) (spare : List ℕ) where
   pub gains-nothing : noGain (victims s spare) ≡ true → firstRefusal (gainChecks s spare) ≡ some nothingToGain
   gains-nothing e = refuses-at 0 _ refl tt e
 
-  module _ (gain : noGain (victims s spare) ≡ false) (n : ℕ) (count : n ≡ length (moves s spare)) where
+  -- there are moves where pages are taken
+  some-moves : (w : Write) (ws : List Write) → false ≡ isEmpty (sort (w ∷ ws))
+  some-moves w ws = sym (ne-eqb (length (sort (w ∷ ws))) 0 (λ e. omega (arith, sort-filled w ws))) ∙ counted-empty (sort (w ∷ ws)) _ refl
+
+  moves-empty : (ps : List ℕ) (n : ℕ) → n ≡ length ps → eqb n 0 ≡ isEmpty (sort (map (copyBy (middle (s .device) spare)) ps))
+  unfolding sort isEmpty
+  moves-empty [] n e = eq-eqb n 0 e
+  moves-empty (p ∷ ps) n e = ne-eqb n 0 (λ z. omega arith) ∙ some-moves _ (map (copyBy (middle (s .device) spare)) ps)
+
+  module _ (gain : noGain (victims s spare) ≡ false) (n : ℕ) (count : n ≡ length (pagesOf (victims s spare))) where
     block-is : (not (isEmpty (moves s spare)) && isEmpty (freeBlocks 0 (s .counts))) ≡ (not (eqb n 0) && isEmpty (freeBlocks 0 (s .counts)))
-    block-is = ap (λ (t : Bool). not t && isEmpty (freeBlocks 0 (s .counts))) (sym (counted-empty (moves s spare) n count))
+    unfolding movesBy
+    block-is = ap (λ (t : Bool). not t && isEmpty (freeBlocks 0 (s .counts))) (sym (moves-empty (pagesOf (victims s spare)) n count))
 
     -- 6: a free block is needed and none exists.
     pub lacks-block : (not (eqb n 0) && isEmpty (freeBlocks 0 (s .counts))) ≡ true → firstRefusal (gainChecks s spare) ≡ some noFreeBlock

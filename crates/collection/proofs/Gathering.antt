@@ -3,20 +3,15 @@ use mathlib.Core.Path.{_≡_, sym, ap, _∙_}
 use mathlib.Core.List.{List, [], _∷_, _++_, map, map-append}
 use Prim.Native.Nat.{ℕ, _+_, _≤_, _<_}
 use native.Mathlib.Omega.{arith}
-use lib.ListN.{length, getD, take, drop, drop-of-length-le, length-append, length-map}
+use lib.ListN.{length, getD, drop, drop-of-length-le, length-append, length-map}
 use Rattle.model.specs.Lists.{store}
 use Rattle.model.specs.Device.{Device}
 use Rattle.model.specs.Spare.{middle}
 use Rattle.model.specs.State.{State}
-use Rattle.model.proofs.Lists.{store-front}
 use Rattle.calls.specs.Choice.{pagesOf}
 use Rattle.calls.specs.Collection.{usedBlock}
 use Rattle.bytes.proofs.Stores.{store-then}
 use Rattle.sorting.proofs.SortStores.{drop-next}
-
--- What was stored at the front is the front.
-pub front : (s t vs : List ℕ) (n : ℕ) → t ≡ store s 0 vs → n ≡ length vs → length vs ≤ length s → take n t ≡ vs
-front s t vs n e h l = ap (take n) e ∙ ap (λ (k : ℕ). take k (store s 0 vs)) h ∙ store-front s vs l
 
 -- The next of the pages, and none, as logical pages.
 pub named-next : (d : Device) (spare : List ℕ) (p x : ℕ) (l m : List ℕ) → x ≡ middle d spare p → l ≡ p ∷ m → map (middle d spare) l ≡ x ∷ map (middle d spare) m

@@ -8,36 +8,29 @@ use native.Mathlib.Omega.{arith}
 use lib.Dec.{ltb}
 use lib.ListN.{length, take, length-map}
 use borrow.Author.Tests.{lt-ltb}
-use Rattle.model.specs.Lists.{all, elem, distinct, ascending, store}
-use Rattle.model.specs.Device.{Device, pages, firstPage}
+use Rattle.model.specs.Lists.{all, elem, ascending, store}
+use Rattle.model.specs.Device.{Device, firstPage}
 use Rattle.model.specs.Spare.{middle, programBlock}
 use Rattle.model.specs.Learning.{Write, sort, logicals, sources}
 use Rattle.model.specs.State.{State, freeBlocks, lowestFree, lowestIn}
-use Rattle.model.proofs.Lists.{all-each, of-asc, length-store}
+use Rattle.model.proofs.Lists.{all-each, of-asc, store-nil}
 use Rattle.model.proofs.Counting.{from}
 use Rattle.model.proofs.Blocks.{lowest-free}
 use Rattle.model.proofs.Limits.{limits}
-use Rattle.model.proofs.Sorting.{sort-asc, sort-elem, logicals-length, sources-length}
+use Rattle.model.proofs.Sorting.{sort-asc, sort-elem, sort-length, logicals-length}
 use Rattle.calls.specs.Outcome.{Lent}
 use Rattle.calls.specs.Flush.{writeState, writeBlock}
 use Rattle.calls.specs.Choice.{blocksOf, pagesOf, copyBy, movesBy, firstOf}
 use Rattle.calls.specs.Collection.{valid, victims, moves, moveAll, firstMoved}
 use Rattle.calls.specs.History.{lend}
 use Rattle.calls.proofs.Choosing.{pages-fit}
-use Rattle.sorting.specs.Keys.{writes, rising}
-use Rattle.sorting.proofs.SortDistinct.{distinct-length, writes-rising}
-use Rattle.state.proofs.Places.{small, pages-small}
+use Rattle.sorting.specs.Keys.{writes}
+use Rattle.sorting.proofs.SortStores.{front}
+use Rattle.sorting.proofs.SortBatch.{same-writes}
+use Rattle.state.proofs.Places.{small}
 use Rattle.state.specs.Shaped.{Passed}
-use Rattle.collection.proofs.Gathering.{gathered, front}
-use Rattle.collection.proofs.Taken.{taken-again, taken-named, taken-named-once, taken-in}
-
--- a store over a shorter one
-store-over : (s xs ys : List ℕ) → length xs ≤ length ys → store (store s 0 xs) 0 ys ≡ store s 0 ys
-unfolding store
-store-over [] xs ys h = refl
-store-over (a ∷ s) [] ys h = refl
-store-over (a ∷ s) (x ∷ xs) [] h = absurd (let z : ⊥ = omega arith in z)
-store-over (a ∷ s) (x ∷ xs) (y ∷ ys) h = ap (λ (l : List ℕ). y ∷ l) (store-over s xs ys (omega arith))
+use Rattle.collection.proofs.Gathering.{gathered}
+use Rattle.collection.proofs.Taken.{taken-again, taken-named}
 
 -- copies, by their logical pages and their sources
 copies : (name : ℕ → ℕ) (ps : List ℕ) → writes (map name ps) ps ≡ map (copyBy name) ps
@@ -50,20 +43,13 @@ unfolding logicals copyBy
 copies-named name [] = refl
 copies-named name (p ∷ ps) = ap (λ (l : List ℕ). name p ∷ l) (copies-named name ps)
 
--- writes are what their two lists give
-writes-again : (ws : List Write) → writes (logicals ws) (sources ws) ≡ ws
-unfolding writes logicals sources
-writes-again [] = refl
-writes-again (w ∷ ws) = ap (λ (l : List Write). w ∷ l) (writes-again ws)
-
 module _ (s : State) (spare : List ℕ) where
-  -- As many are moved as are taken.
-  pub moves-count : length (moves s spare) ≡ length (pagesOf (victims s spare))
+  -- No more are moved than are taken.
+  moves-most : length (moves s spare) ≤ length (pagesOf (victims s spare))
   unfolding movesBy
-  moves-count =
-      distinct-length (map (copyBy (middle (s .device) spare)) (pagesOf (victims s spare)))
-      (ap distinct (copies-named (middle (s .device) spare) (pagesOf (victims s spare))) ∙ taken-named-once s spare)
-      ∙ length-map (pagesOf (victims s spare)) (copyBy (middle (s .device) spare))
+  moves-most =
+      let copied = map (copyBy (middle (s .device) spare)) (pagesOf (victims s spare)) in
+      omega (arith, sort-length copied, length-map (pagesOf (victims s spare)) (copyBy (middle (s .device) spare)))
 
   moves-ascend : ascending (logicals (moves s spare)) ≡ true
   unfolding movesBy
@@ -94,99 +80,82 @@ module _ (d : Device) (s : State) (spare : List ℕ) (v : Passed d s spare) wher
   gathered-few bs e = omega (arith, ap length (gathered-is bs e), room, limits d (v .shape .limits) .most-B)
 
   pub moves-few : length (moves s spare) ≤ 256
-  moves-few = omega (arith, moves-count s spare, room, limits d (v .shape .limits) .most-B)
+  moves-few = omega (arith, moves-most s spare, room, limits d (v .shape .limits) .most-B)
 
-  -- The gathered pages, behind one another in two lists, are ready to be sorted; sorted they are the moves.
-  module _ (counted : length (s .counts) ≡ d .M) (bs ps ps′ ss ss′ : List ℕ) (n : ℕ) (is : bs ≡ blocksOf (victims s spare))
-      (count : n ≡ length (gathered s spare bs)) (named : ps′ ≡ store ps 0 (map (middle d spare) (gathered s spare bs)))
-      (from : ss′ ≡ store ss 0 (gathered s spare bs)) (long : 256 ≤ length ps) (long′ : 256 ≤ length ss) where
+  -- The gathered pages, at the front of two lists, are ready to be sorted; sorted they are the moves.
+  module _ (bs b b′ f f′ : List ℕ) (n : ℕ) (is : bs ≡ blocksOf (victims s spare)) (count : n ≡ length (gathered s spare bs))
+      (named : b′ ≡ store b 0 (map (middle d spare) (gathered s spare bs))) (from : f′ ≡ store f 0 (gathered s spare bs))
+      (long : length b ≡ 256) (long′ : length f ≡ 256) where
     abbrev taken : List ℕ
     taken = pagesOf (victims s spare)
 
-    counts : n ≡ length taken
-    counts = count ∙ ap length (gathered-is bs is)
+    front-names : take n b′ ≡ map (middle (s .device) spare) taken
+    front-names =
+        let size = length-map (gathered s spare bs) (middle d spare) in
+        front b b′ _ n named (omega arith) (omega (arith, gathered-few bs is))
+        ∙ ap (map (middle d spare)) (gathered-is bs is)
+        ∙ ap (λ (e : Device). map (middle e spare) taken) (sym (v .shape .numbers))
 
-    few : length taken ≤ 256
-    few = omega (arith, room, limits d (v .shape .limits) .most-B)
+    front-from : take n f′ ≡ taken
+    front-from = front f f′ _ n from count (omega (arith, gathered-few bs is)) ∙ gathered-is bs is
 
-    names-length : length (map (middle (s .device) spare) taken) ≡ length taken
-    names-length = length-map taken (middle (s .device) spare)
-
-    names : ps′ ≡ store ps 0 (map (middle (s .device) spare) taken)
-    names = named ∙ ap (λ (l : List ℕ). store ps 0 (map (middle d spare) l)) (gathered-is bs is) ∙ ap (λ (e : Device). store ps 0 (map (middle e spare) taken)) (sym (v .shape .numbers))
-
-    froms : ss′ ≡ store ss 0 taken
-    froms = from ∙ ap (store ss 0) (gathered-is bs is)
-
-    front-names : take n ps′ ≡ map (middle (s .device) spare) taken
-    front-names = front ps ps′ _ n names (omega (arith, counts, names-length)) (omega (arith, names-length, few))
-
-    front-froms : take n ss′ ≡ taken
-    front-froms = front ss ss′ taken n froms counts (omega (arith, few))
-
-    long-names : n ≤ length ps′
-    long-names = omega (arith, ap length names, length-store ps 0 (map (middle (s .device) spare) taken), counts, few)
-
-    long-froms : n ≤ length ss′
-    long-froms = omega (arith, ap length froms, length-store ss 0 taken, counts, few)
+    pub front-lengths : (length (take n b′) ≡ n) × (length (take n f′) ≡ n)
+    front-lengths =
+        let size = count ∙ ap length (gathered-is bs is) in
+        (ap length front-names ∙ length-map taken (middle (s .device) spare) ∙ sym size, ap length front-from ∙ sym size)
 
     small-name : (x : ℕ) → elem x (map (middle (s .device) spare) taken) ≡ true → ltb x 1048576 ≡ true
     small-name x m = lt-ltb x 1048576 (omega (arith, named-below s spare x m, ap (λ (e : Device). e .N) (v .shape .numbers), small d (v .shape .limits) .pages))
 
-    small-from : (p : ℕ) → elem p taken ≡ true → ltb p 1048576 ≡ true
-    unfolding pages
-    small-from p m = lt-ltb p 1048576 (omega (arith, taken-in s spare d (v .shape .numbers) (v .shape .limits) counted p m, pages-small d (v .shape .limits)))
+    pub sort-ready : (p q : ℕ) → d .B ≤ p → d .B ≤ q
+        → (length (take n b′) ≤ 256) × (all (λ y. ltb y 1048576) (take n b′) ≡ true) × (length (take n f′) ≡ length (take n b′))
+        × (length (take n b′) ≤ p) × (length (take n b′) ≤ q)
+    sort-ready p q h k =
+        let size = front-lengths in
+        let fits : n ≤ d .B = omega (arith, count, ap length (gathered-is bs is), room) in
+        let most = limits d (v .shape .limits) .most-B in (
+          omega arith,
+          ap (all (λ y. ltb y 1048576)) front-names ∙ all-each (λ y. ltb y 1048576) _ small-name,
+          size .1 ∙ sym (size .0),
+          omega arith,
+          omega arith,
+        )
 
-    pub sort-ready : (n ≤ 256) × (n ≤ length ps′) × (n ≤ length ss′)
-        × (all (λ y. ltb y 1048576) (take n ps′) ≡ true) × (all (λ y. ltb y 1048576) (take n ss′) ≡ true)
-        × (rising (writes (take n ps′) (take n ss′)) ≡ true)
-    sort-ready = (
-      omega (arith, counts, few),
-      long-names,
-      long-froms,
-      ap (all (λ y. ltb y 1048576)) front-names ∙ all-each (λ y. ltb y 1048576) _ small-name,
-      ap (all (λ y. ltb y 1048576)) front-froms ∙ all-each (λ y. ltb y 1048576) taken small-from,
-      writes-rising n ps′ ss′ long-names long-froms (ap distinct front-names ∙ taken-named-once s spare),
-    )
-
-    are : sort (writes (take n ps′) (take n ss′)) ≡ moves s spare
+    are : sort (writes (take n b′) (take n f′)) ≡ moves s spare
     unfolding movesBy
     are =
-        ap (λ (l : List ℕ). sort (writes l (take n ss′))) front-names
-        ∙ ap (λ (l : List ℕ). sort (writes (map (middle (s .device) spare) taken) l)) front-froms
+        ap (λ (l : List ℕ). sort (writes l (take n f′))) front-names
+        ∙ ap (λ (l : List ℕ). sort (writes (map (middle (s .device) spare) taken) l)) front-from
         ∙ ap sort (copies (middle (s .device) spare) taken)
 
-    pub sort-done : (r : ℕ) (ps″ ss″ : List ℕ) → r ≡ length (sort (writes (take n ps′) (take n ss′)))
-        → ps″ ≡ store ps′ 0 (logicals (sort (writes (take n ps′) (take n ss′))))
-        → ss″ ≡ store ss′ 0 (sources (sort (writes (take n ps′) (take n ss′))))
-        → (r ≡ length (moves s spare)) × ((ps″ ≡ store ps 0 (logicals (moves s spare))) × (ss″ ≡ store ss 0 (sources (moves s spare))))
-    sort-done r ps″ ss″ a b c = (
-      a ∙ ap length are,
-      (
-        b ∙ ap (λ (l : List Write). store ps′ 0 (logicals l)) are ∙ ap (λ (l : List ℕ). store l 0 (logicals (moves s spare))) names
-            ∙ store-over ps _ _ (omega (arith, names-length, moves-count s spare, logicals-length (moves s spare))),
-        c ∙ ap (λ (l : List Write). store ss′ 0 (sources l)) are ∙ ap (λ (l : List ℕ). store l 0 (sources (moves s spare))) froms
-            ∙ store-over ss _ _ (omega (arith, moves-count s spare, sources-length (moves s spare))),
-      ),
-    )
+    pub sort-done : (r : ℕ) (ps ps′ ss ss′ : List ℕ) → r ≡ length (sort (writes (take n b′) (take n f′)))
+        → ps′ ≡ store ps 0 (logicals (sort (writes (take n b′) (take n f′))))
+        → ss′ ≡ store ss 0 (sources (sort (writes (take n b′) (take n f′))))
+        → (r ≡ length (moves s spare)) × ((ps′ ≡ store ps 0 (logicals (moves s spare))) × (ss′ ≡ store ss 0 (sources (moves s spare))))
+    sort-done r ps ps′ ss ss′ = same-writes _ (moves s spare) are r ps ps′ ss ss′
 
-  -- A block can take the moves, given as two lists.
-  module _ (ps ss : List ℕ) (named : ps ≡ logicals (moves s spare)) (from : ss ≡ sources (moves s spare)) where
-    pub write-ready : (ascending ps ≡ true) × (all (λ x. ltb x (d .N)) ps ≡ true) × (length ps ≤ d .B) × (length ss ≡ length ps)
+  -- A block can take the moves.
+  module _ (ps : List ℕ) (named : ps ≡ logicals (moves s spare)) where
+    pub write-ready : (ascending ps ≡ true) × (all (λ x. ltb x (d .N)) ps ≡ true) × (length ps ≤ d .B)
     write-ready = (
       ap ascending named ∙ moves-ascend s spare,
       ap (all (λ x. ltb x (d .N))) named ∙ ap (λ (e : Device). all (λ x. ltb x (e .N)) (logicals (moves s spare))) (sym (v .shape .numbers)) ∙ moves-logical s spare,
-      omega (arith, ap length named, logicals-length (moves s spare), moves-count s spare, room),
-      omega (arith, ap length named, ap length from, logicals-length (moves s spare), sources-length (moves s spare)),
+      omega (arith, ap length named, logicals-length (moves s spare), moves-most s spare, room),
     )
 
+    -- the plan with the sources in front
+    abbrev planned : List ℕ → List Write → List ℕ
+    planned plan ws = store plan 0 (sources ws)
+
     -- Nothing to move: nothing is written ..
-    nothing : (ws : List Write) → length ws ≡ 0 → (0 ≡ firstMoved ws s) × ((x : Lent) → x ≡ moveAll ws x)
-    unfolding firstOf moveAll
-    nothing [] h = (refl, λ x. refl)
+    nothing : (ws : List Write) → length ws ≡ 0
+        → (0 ≡ firstMoved ws s) × ((plan erased : List ℕ) → lend s spare (planned plan ws) erased ≡ moveAll ws (lend s spare plan erased))
+    unfolding firstOf moveAll sources
+    nothing [] h = (refl, λ plan erased. ap (λ (l : List ℕ). lend s spare l erased) (store-nil plan 0))
     nothing (w ∷ ws) h = absurd (omega arith)
 
-    pub none-moved : length ps ≡ 0 → (0 ≡ firstMoved (moves s spare) s) × ((x : Lent) → x ≡ moveAll (moves s spare) x)
+    pub none-moved : length ps ≡ 0 → (0 ≡ firstMoved (moves s spare) s)
+        × ((plan erased : List ℕ) → lend s spare (planned plan (moves s spare)) erased ≡ moveAll (moves s spare) (lend s spare plan erased))
     none-moved h = nothing (moves s spare) (omega (arith, h, ap length named, logicals-length (moves s spare)))
 
     -- .. otherwise the lowest free block takes the moves.
@@ -195,19 +164,18 @@ module _ (d : Device) (s : State) (spare : List ℕ) (v : Passed d s spare) wher
     something [] h = absurd (h refl)
     something (w ∷ ws) h = (refl, λ x. refl)
 
-    pub some-moved : (length ps ≡ 0 → ⊥) → (k : ℕ) → k ≡ lowestFree s → (s′ : State) (spare′ plan plan′ : List ℕ)
-        → s′ ≡ writeState (writes ps ss) k s → spare′ ≡ programBlock d ps k spare → plan′ ≡ store plan 0 ss
-        → (k * d .B ≡ firstMoved (moves s spare) s) × ((erased : List ℕ) → lend s′ spare′ plan′ erased ≡ moveAll (moves s spare) (lend s spare plan erased))
+    pub some-moved : (length ps ≡ 0 → ⊥) → (k : ℕ) → k ≡ lowestFree s → (s′ : State) (spare′ : List ℕ)
+        → ((ws : List Write) → logicals ws ≡ ps → s′ ≡ writeState ws k s) → spare′ ≡ programBlock d ps k spare
+        → (k * d .B ≡ firstMoved (moves s spare) s)
+        × ((plan erased : List ℕ) → lend s′ spare′ (planned plan (moves s spare)) erased ≡ moveAll (moves s spare) (lend s spare plan erased))
     unfolding firstPage lend writeBlock
-    some-moved h k e s′ spare′ plan plan′ a b c =
+    some-moved h k e s′ spare′ a b =
         let m = something (moves s spare) (λ q. h (omega (arith, q, ap length named, logicals-length (moves s spare)))) in
-        let again : writes ps ss ≡ moves s spare = rw (named, from) (writes-again (moves s spare)) in
-        let state : s′ ≡ writeState (moves s spare) (lowestFree s) s = a ∙ ap (λ (ws : List Write). writeState ws k s) again ∙ ap (λ (j : ℕ). writeState (moves s spare) j s) e in
+        let state : s′ ≡ writeState (moves s spare) (lowestFree s) s = a (moves s spare) (sym named) ∙ ap (λ (j : ℕ). writeState (moves s spare) j s) e in
         let area : spare′ ≡ programBlock (s .device) (logicals (moves s spare)) (lowestFree s) spare =
         b ∙ ap (λ (c : Device). programBlock c ps k spare) (sym (v .shape .numbers)) ∙ ap (λ (l : List ℕ). programBlock (s .device) l k spare) named
         ∙ ap (λ (j : ℕ). programBlock (s .device) (logicals (moves s spare)) j spare) e in
-        let list : plan′ ≡ store plan 0 (sources (moves s spare)) = c ∙ ap (store plan 0) from in
-        (ap (λ (j : ℕ). j * d .B) e ∙ ap (λ (c : Device). lowestFree s * c .B) (sym (v .shape .numbers)) ∙ sym (m .0), λ erased. rw (state, area, list) (sym (m .1 _)))
+        (ap (λ (j : ℕ). j * d .B) e ∙ ap (λ (c : Device). lowestFree s * c .B) (sym (v .shape .numbers)) ∙ sym (m .0), λ plan erased. rw (state, area) (sym (m .1 _)))
 
   -- The block that is written is one of the device's.
   pub lowest-in : length (s .counts) ≡ d .M → (k : ℕ) → k ≡ lowestFree s → k < d .M

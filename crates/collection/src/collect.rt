@@ -108,26 +108,20 @@ fn take_blocks(state: &[u8], spare: &[u32], d: Numbers, erased: &mut [u32]) -> T
     Taken::Blocks(c)
 }
 
-// The moves are written to the lowest-numbered free block, if there are any; the first page.
-fn write_moves(
-    state: &mut [u8],
-    spare: &mut [u32],
-    plan: &mut [u32],
-    d: Numbers,
-    pages: &[u32],
-    sources: &[u32],
-) -> u32
-    requires { ⌜ Passed (numbersOf d) (readState (now state)) (now spare) × (length (now plan) ≡ d .b) ⌝ }
-    requires { ⌜ (now pages ≡ logicals (movesOf (readState (now state)) (now spare))) × (now sources ≡ sourcesOf (movesOf (readState (now state)) (now spare))) ⌝ }
+// The moves are written to the lowest-numbered free block, if there are any; the first page. Their sources are in the plan already.
+fn write_moves(state: &mut [u8], spare: &mut [u32], d: Numbers, pages: &[u32]) -> u32
+    requires { ⌜ Passed (numbersOf d) (readState (now state)) (now spare) ⌝ }
+    requires { ⌜ now pages ≡ logicals (movesOf (readState (now state)) (now spare)) ⌝ }
     ensures first { λ r. ⌜ r ≡ firstMoved (movesOf (readState (now (state .entry))) (now (spare .entry))) (readState (now (state .entry))) ⌝ }
-    ensures left { λ _. ⌜ ((erased : List ℕ) → lend (readState (now (state .exit))) (now (spare .exit)) (now (plan .exit)) erased
-        ≡ moveAll (movesOf (readState (now (state .entry))) (now (spare .entry))) (lend (readState (now (state .entry))) (now (spare .entry)) (now (plan .entry)) erased)) ⌝ }
+    ensures left { λ _. ⌜ ((plan erased : List ℕ) → lend (readState (now (state .exit))) (now (spare .exit))
+        (store plan 0 (sourcesOf (movesOf (readState (now (state .entry))) (now (spare .entry))))) erased
+        ≡ moveAll (movesOf (readState (now (state .entry))) (now (spare .entry))) (lend (readState (now (state .entry))) (now (spare .entry)) plan erased)) ⌝ }
 {
     if pages.len() == 0 {
         return 0;
     }
     let k = lowest_free(state, d);
-    write_block(state, spare, plan, d, k, pages, sources);
+    write_block(state, spare, d, k, pages);
     k * d.b
 }
 
@@ -147,9 +141,8 @@ fn carry_out(
         ≡ collectDone (lend (readState (now (state .entry))) (now (spare .entry)) (now (plan .entry)) erased) .after) ⌝ }
 {
     let mut pages = [0u32; 256];
-    let mut sources = [0u32; 256];
-    let n = moves(state, spare, d, blocks, &mut pages, &mut sources);
-    let first = write_moves(state, spare, plan, d, &pages[..n], &sources[..n]);
+    let n = moves(state, spare, d, blocks, &mut pages, plan);
+    let first = write_moves(state, spare, d, &pages[..n]);
     erase_blocks(state, spare, d, blocks);
     Collected::Done(first, n as u32, blocks.len() as u32)
 }

@@ -90,11 +90,13 @@ pub fn moves(
 ) -> usize
     requires { ⌜ Passed (numbersOf d) (readState (now state)) (now spare)
         × (now blocks ≡ blocksOf (victims (readState (now state)) (now spare)))
-        × (256 ≤ length (now pages)) × (256 ≤ length (now sources)) ⌝ }
+        × (d .b ≤ length (now pages)) × (d .b ≤ length (now sources)) ⌝ }
     ensures count { λ r. ⌜ r ≡ length (moves (readState (now (state .entry))) (now (spare .entry))) ⌝ }
     ensures logical { λ _. ⌜ now (pages .exit) ≡ store (now (pages .entry)) 0 (logicals (moves (readState (now (state .entry))) (now (spare .entry)))) ⌝ }
     ensures source { λ _. ⌜ now (sources .exit) ≡ store (now (sources .entry)) 0 (sourcesOf (moves (readState (now (state .entry))) (now (spare .entry)))) ⌝ }
 {
-    let n = gather(state, spare, d, blocks, pages, sources);
-    sort_writes(pages, sources, n)
+    let mut batch = [0u32; 256];
+    let mut from = [0u32; 256];
+    let n = gather(state, spare, d, blocks, &mut batch, &mut from);
+    sort_writes(&batch[..n], &from[..n], pages, sources)
 }

@@ -2,40 +2,25 @@
 use mathlib.Core.Path.{_≡_, refl}
 use mathlib.Core.List.{List, []}
 use mathlib.Core.Option.{none, some}
-use mathlib.Core.Bool.{true≢false, true}
-use Prim.Native.Nat.{ℕ, _*_, _≤_, _<_}
+use mathlib.Core.Bool.{true≢false}
+use Prim.Native.Nat.{ℕ, _*_, _<_}
 use native.Mathlib.Omega.{arith}
-use lib.Dec.{ltb}
 use lib.ListN.{length}
 use borrow.Author.Tests.{ltb-false, not-false}
-use Rattle.model.specs.Lists.{all, store}
-use Rattle.model.specs.Device.{Device, firstPage, spareLength}
-use Rattle.model.specs.Spare.{programBlock}
-use Rattle.model.specs.Learning.{sorted, logicals, sources}
+use Rattle.model.specs.Device.{Device, firstPage}
 use Rattle.model.specs.State.{State, freeBlocks, lowestFree}
-use Rattle.model.specs.Sound.{soundState}
 use Rattle.model.proofs.Blocks.{lowest-free}
 use Rattle.calls.specs.Refusals.{Refusal, firstRefusal, openingWith}
 use Rattle.calls.specs.Outcome.{accepted, refused, flushed}
-use Rattle.calls.specs.Flush.{flushChecks, flushDone, writeBlock, writeState}
+use Rattle.calls.specs.Flush.{flushChecks, flushDone, writeBlock}
 use Rattle.calls.specs.History.{flushCall, lend, lentTo, checksOf, effect}
 use Rattle.calls.proofs.Fitting.{fits-of}
 use Rattle.calls.proofs.Refusing.{clears, is-clear}
 use Rattle.state.specs.Reading.{readState}
-use Rattle.state.specs.Shaped.{Shaped}
 use Rattle.state.specs.Ran.{Ran}
 use Rattle.state.proofs.Refusing.{ran-refused, ran-accepted, opened-with}
 use Rattle.state.proofs.Shaping.{length-counts}
-
--- What a flush that is not refused has passed, in the device's own numbers.
-pub record Admitted (d : Device) (s : State) (spare batch plan : List ℕ) : Type 0 where
-  pub shape : Shaped d s
-  pub fits : length spare ≡ spareLength d
-  pub sound : soundState s ≡ true
-  pub planned : length plan ≡ d .B
-  pub short : length batch ≤ d .B
-  pub inside : all (λ x. ltb x (d .N)) batch ≡ true
-  pub free : 2 ≤ length (freeBlocks 0 (s .counts))
+use Rattle.flush.specs.Written.{Admitted, Written}
 
 module _ (state spare batch plan : List ℕ) where
   abbrev s : State
@@ -69,11 +54,9 @@ module _ (state spare batch plan : List ℕ) where
     lowest-inside k e = omega (arith, lowest-free (s .counts) (omega (arith, passed .free)) .0, length-counts d state (passed .shape))
 
     -- the block is written, and its first page and the count are answered
-    pub flush-written : (k n : ℕ) (state′ spare′ plan′ : List ℕ) → k ≡ lowestFree s → n ≡ length (sorted batch)
-        → readState state′ ≡ writeState (sorted batch) k s → spare′ ≡ programBlock d (logicals (sorted batch)) k spare
-        → plan′ ≡ store plan 0 (sources (sorted batch))
+    pub flush-written : (k n : ℕ) (state′ spare′ plan′ : List ℕ) → k ≡ lowestFree s → Written d batch k n s (readState state′) spare spare′ plan plan′
         → Ran (flushCall batch plan) state spare (flushed (k * d .B) n) (record { state = state′; spare = spare′; plan = plan′; erased = []; out = [] })
     unfolding checksOf lentTo lend effect flushDone writeBlock firstPage accepted
-    flush-written k n state′ spare′ plan′ e f a b c =
-        ran-accepted (flushCall batch plan) state spare (flushed (k * d .B) n) _ clear (rw (e, f, ← numbers))
-        (rw (a, b, c, e, ← numbers)) (λ z. absurd (true≢false z))
+    flush-written k n state′ spare′ plan′ e w =
+        ran-accepted (flushCall batch plan) state spare (flushed (k * d .B) n) _ clear (rw (e, w .count, ← numbers))
+        (rw (w .state, w .area, w .listed, e, ← numbers)) (λ z. absurd (true≢false z))

@@ -1,6 +1,8 @@
 // Flush: a batch goes to the lowest-numbered free block.
 use sorting::order::all_below;
-use sorting::sort::sort_batch;
+use sorting::order::ascends;
+use sorting::sort::number;
+use sorting::sort::sort_any;
 use spare::Numbers;
 use state::answers::Flushed;
 use state::answers::Refusal;
@@ -11,24 +13,20 @@ use state::opening::Opened;
 use state::opening::open_with_spare;
 use writing::block::write_block;
 ghost use mathlib.Core.Path.{_≡_};
-ghost use mathlib.Core.Bool.{true, _||_};
+ghost use mathlib.Core.Bool.{_||_};
 ghost use mathlib.Core.List.{[]};
-ghost use Prim.Native.Nat.{_<_, _≤_};
+ghost use Prim.Native.Nat.{_<_};
 ghost use lib.Dec.{ltb};
 ghost use lib.ListN.{length};
-ghost use Rattle.model.specs.Lists.{all, store};
-ghost use Rattle.model.specs.Device.{spareLength};
-ghost use Rattle.model.specs.Spare.{programBlock};
-ghost use Rattle.model.specs.Learning.{sorted, logicals, sources};
-ghost use Rattle.model.specs.Sound.{isEmpty, soundState};
-ghost use Rattle.calls.specs.Flush.{flushChecks, writeState};
+ghost use Rattle.model.specs.Sound.{isEmpty};
+ghost use Rattle.calls.specs.Flush.{flushChecks};
 ghost use Rattle.calls.specs.History.{flushCall, lend};
 ghost use Rattle.spare.specs.Read.{numbersOf};
 ghost use Rattle.state.specs.Reading.{readState};
-ghost use Rattle.state.specs.Shaped.{Shaped};
 ghost use Rattle.state.specs.Answers.{flushAnswer};
 ghost use Rattle.state.specs.Opening.{verdict, verdictOf};
 ghost use Rattle.state.specs.Ran.{Ran};
+ghost use Rattle.flush.specs.Written.{Admitted, Written};
 
 // Whether the size is wrong: "5, batch empty or longer than B".
 fn wrong_size(batch: &[u32], b: u32) -> bool
@@ -68,7 +66,26 @@ fn check(state: &[u8], spare: &[u32], batch: &[u32], plan: &[u32]) -> Opened
     Opened::Device(d)
 }
 
-// Block k takes the batch, sorted; how many pages it takes.
+// Block k takes the batch, sorted; how many pages it takes. The plan gets the sources.
+fn write_sorted(
+    state: &mut [u8],
+    spare: &mut [u32],
+    plan: &mut [u32],
+    d: Numbers,
+    k: u32,
+    batch: &[u32],
+) -> u32
+    requires { ⌜ Admitted (numbersOf d) (readState (now state)) (now spare) (now batch) (now plan) × (k < d .m) ⌝ }
+    ensures { λ r. ⌜ Written (numbersOf d) (now (batch .entry)) k r (readState (now (state .entry))) (readState (now (state .exit)))
+        (now (spare .entry)) (now (spare .exit)) (now (plan .entry)) (now (plan .exit)) ⌝ }
+{
+    let mut pages = [0u32; 256];
+    let n = sort_any(batch, &mut pages, plan);
+    write_block(state, spare, d, k, &pages[..n]);
+    n as u32
+}
+
+// Block k takes the batch; how many pages it takes. One that ascends is not copied.
 fn write_batch(
     state: &mut [u8],
     spare: &mut [u32],
@@ -77,19 +94,16 @@ fn write_batch(
     k: u32,
     batch: &[u32],
 ) -> u32
-    requires { ⌜ Shaped (numbersOf d) (readState (now state)) × (soundState (readState (now state)) ≡ true)
-        × (length (now spare) ≡ spareLength (numbersOf d)) × (length (now plan) ≡ d .b) × (k < d .m) ⌝ }
-    requires { ⌜ (length (now batch) ≤ d .b) × (all (λ x. ltb x (d .n)) (now batch) ≡ true) ⌝ }
-    ensures { λ r. ⌜ r ≡ length (sorted (now (batch .entry))) ⌝ }
-    ensures { λ _. ⌜ readState (now (state .exit)) ≡ writeState (sorted (now (batch .entry))) k (readState (now (state .entry))) ⌝ }
-    ensures { λ _. ⌜ now (spare .exit) ≡ programBlock (numbersOf d) (logicals (sorted (now (batch .entry)))) k (now (spare .entry)) ⌝ }
-    ensures { λ _. ⌜ now (plan .exit) ≡ store (now (plan .entry)) 0 (sources (sorted (now (batch .entry)))) ⌝ }
+    requires { ⌜ Admitted (numbersOf d) (readState (now state)) (now spare) (now batch) (now plan) × (k < d .m) ⌝ }
+    ensures { λ r. ⌜ Written (numbersOf d) (now (batch .entry)) k r (readState (now (state .entry))) (readState (now (state .exit)))
+        (now (spare .entry)) (now (spare .exit)) (now (plan .entry)) (now (plan .exit)) ⌝ }
 {
-    let mut pages = [0u32; 256];
-    let mut sources = [0u32; 256];
-    let n = sort_batch(batch, &mut pages, &mut sources);
-    write_block(state, spare, plan, d, k, &pages[..n], &sources[..n]);
-    n as u32
+    if ascends(batch) {
+        number(batch, plan);
+        write_block(state, spare, d, k, batch);
+        return batch.len() as u32;
+    }
+    write_sorted(state, spare, plan, d, k, batch)
 }
 
 // Document 01's flush.

@@ -1,3 +1,4 @@
+pub mod Sizes
 pub mod Order
 pub mod Digits
 pub mod Keys

@@ -15,7 +15,8 @@ use Rattle.state.specs.Reading.{readState}
 use Rattle.state.specs.Answers.{flushAnswer}
 use Rattle.state.proofs.Refusing.{refused-first, passed-all}
 use Rattle.writing.proofs.Written.{room}
-use Rattle.flush.proofs.Flushing.{Admitted, flush-refused, passed, lowest-inside, flush-written}
+use Rattle.flush.specs.Written.{Admitted}
+use Rattle.flush.proofs.Flushing.{flush-refused, passed, lowest-inside, flush-written}
 use Rattle.flush.proofs.flush.Statement.{statement}
 use Rattle.flush.proofs.flush.Tie as tie
 
@@ -48,9 +49,7 @@ lowest-free-requires : tie.Need-lowest-free-requires
 lowest-free-requires c κs = all-passed (c .before) .shape
 
 write-batch-requires : tie.Need-write-batch-requires
-write-batch-requires c κs =
-    let p = all-passed (c .before .before .before .before .before) in
-    ((p .shape, p .sound, p .fits, p .planned, inside (c .before .before .before)), (p .short, p .inside))
+write-batch-requires c κs = (all-passed (c .before .before .before .before .before), inside (c .before .before .before))
 
 mul-t26 : tie.Need-mul-t26
 mul-t26 c = omega (arith, room _ _ (all-passed (c .before .before .before .before .before .before .before .before .before .before .before .before .before) .shape) _ (inside (c .before .before .before .before .before .before .before .before .before .before .before)) 0 (omega arith))
@@ -58,8 +57,7 @@ mul-t26 c = omega (arith, room _ _ (all-passed (c .before .before .before .befor
 returns-2 : tie.Need-returns-2
 unfolding flushAnswer
 returns-2 c =
-    let e = c .before .before .before .before .before .before .before .write-batch .ensures in
-    flush-written _ _ _ _ _ (clear (c .before .before .before .before .before .before .before .before .before .before .before .before .before) .0) (clear (c .before .before .before .before .before .before .before .before .before .before .before .before .before) .1) _ _ _ _ _ (c .before .before .before .before .before .before .before .before .before .before .before .lowest-free .ensures) (e .0) (e .1 .0) (e .1 .1 .0) (e .1 .1 .1)
+    flush-written _ _ _ _ _ (clear (c .before .before .before .before .before .before .before .before .before .before .before .before .before) .0) (clear (c .before .before .before .before .before .before .before .before .before .before .before .before .before) .1) _ _ _ _ _ (c .before .before .before .before .before .before .before .before .before .before .before .lowest-free .ensures) (c .before .before .before .before .before .before .before .write-batch .ensures)
 
 pub flush-spec : {M : Type 1} → statement M
 flush-spec = tie.close (tie.spec (λ c κs. search needs) (λ c. search needs) (λ c. search needs) (λ c. search needs)

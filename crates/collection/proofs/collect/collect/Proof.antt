@@ -15,6 +15,7 @@ use Rattle.calls.specs.Choice.{blocksOf}
 use Rattle.calls.specs.Collection.{victims, admitChecks}
 use Rattle.calls.specs.History.{lend}
 use Rattle.spare.specs.Read.{numbersOf}
+use Rattle.sorting.proofs.SortStores.{front}
 use Rattle.state.specs.Reading.{readState}
 use Rattle.state.specs.Shaped.{Passed}
 use Rattle.state.specs.Answers.{collectAnswer}
@@ -22,7 +23,6 @@ use Rattle.state.proofs.Shaping.{length-counts}
 use Rattle.state.proofs.Refusing.{refused-first, passed-all}
 use Rattle.collection.specs.Taking.{gainChecks}
 use Rattle.collection.proofs.Chosen.{blocks-length}
-use Rattle.collection.proofs.Gathering.{front}
 use Rattle.collection.proofs.Taken.{blocks-few}
 use Rattle.collection.proofs.Deciding.{refused-then, taken-then}
 use Rattle.collection.proofs.Ending.{admitted, not-admitted, not-taken, collects}

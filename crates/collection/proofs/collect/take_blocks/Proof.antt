@@ -12,6 +12,7 @@ use Rattle.model.specs.Lists.{store}
 use Rattle.model.proofs.Limits.{limits}
 use Rattle.calls.specs.Choice.{blocksOf, pagesOf, noGain}
 use Rattle.calls.specs.Collection.{victims}
+use Rattle.sorting.proofs.SortStores.{front}
 use Rattle.state.specs.Reading.{readState}
 use Rattle.state.specs.Answers.{refusalOf}
 use Rattle.state.proofs.Shaping.{length-counts}
@@ -21,8 +22,6 @@ use Rattle.collection.proofs.Chosen.{blocks-length}
 use Rattle.collection.proofs.Totals.{total-victims}
 use Rattle.collection.proofs.Choosing.{chosen-victims}
 use Rattle.collection.proofs.Judging.{length-tally}
-use Rattle.collection.proofs.Gathering.{front}
-use Rattle.collection.proofs.Moved.{moves-count}
 use Rattle.collection.proofs.Deciding.{gains-nothing, lacks-block, gains, says-refused, says-taken}
 use Rattle.collection.proofs.collect.take_blocks.Statement.{statement}
 use Rattle.collection.proofs.collect.take_blocks.Tie as tie
@@ -104,7 +103,7 @@ returns-2 : tie.Need-returns-2
 unfolding choiceOf refusalOf
 returns-2 c =
     let k = at-block (c .before) in
-    says-refused _ _ (lacks-block _ _ (sym (gain k) ∙ c .before .before .if1 .left) _ (pages (k .before) ∙ sym (moves-count _ _)) (sym (c .before .no-block .ensures) ∙ c .if2 .taken)) _
+    says-refused _ _ (lacks-block _ _ (sym (gain k) ∙ c .before .before .if1 .left) _ (pages (k .before)) (sym (c .before .no-block .ensures) ∙ c .if2 .taken)) _
 
 array-share-prefix-tally-2 : tie.Need-array-share-prefix-tally-2
 array-share-prefix-tally-2 c = room (at-gain (at-block (c .before)))
@@ -123,7 +122,7 @@ unfolding choiceOf
 returns-3 c =
     let b = c .before .before .before .before .before .before in
     let k = at-block b in
-    let none = gains _ _ (sym (gain k) ∙ b .before .if1 .left) _ (pages (k .before) ∙ sym (moves-count _ _)) (sym (b .no-block .ensures) ∙ c .before .before .before .before .before .if2 .left) in
+    let none = gains _ _ (sym (gain k) ∙ b .before .if1 .left) _ (pages (k .before)) (sym (b .no-block .ensures) ∙ c .before .before .before .before .before .if2 .left) in
     says-taken _ _ none _ (blocks (k .before)) _ _ (c .before .before .choose .ensures ∙ ap (store (start (at-gain k) .args .erased .now) 0) (chose (at-gain k)))
 
 pub take-blocks-spec : {M : Type 1} → statement M

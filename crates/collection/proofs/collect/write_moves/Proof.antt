@@ -9,45 +9,42 @@ use Rattle.collection.proofs.collect.write_moves.Statement.{statement}
 use Rattle.collection.proofs.collect.write_moves.Tie as tie
 
 abbrev start′′ : tie.Then1 → tie.Start
-start′′ c = c .before .before .before .before .before .before
+start′′ c = c .before .before .before .before
 
 abbrev after-write-block : tie.After-struct-known → tie.After-write-block
-after-write-block c = c .before .before .before .before .before .before .before
+after-write-block c = c .before .before .before .before .before
 
 abbrev start : tie.After-lowest-free → tie.Start
-start c = c .before .before .before .before .before .before .before .before
+start c = c .before .before .before .before .before .before
 
 abbrev after-lowest-free : tie.After-struct-known → tie.After-lowest-free
-after-lowest-free c = after-write-block c .before .before .before .before
+after-lowest-free c = after-write-block c .before .before .before
 
 abbrev start′ : tie.After-struct-known → tie.Start
-start′ c = after-lowest-free c .before .before .before .before .before .before .before .before
+start′ c = start (after-lowest-free c)
 
 returns : tie.Need-returns
-returns c =
-    let pre = start′′ c .pre in
-    let none = none-moved _ _ _ (pre .0 .0) _ _ (pre .1 .0) (pre .1 .1) (c .if1 .taken) in
-    (none .0, λ erased. none .1 _)
+returns c = let pre = start′′ c .pre in none-moved _ _ _ (pre .0) _ (pre .1) (c .if1 .taken)
 
 -- the block that is written is one of the device's
 inside : (c : tie.After-lowest-free) → c .lowest-free .result < start c .args .d .m
-inside c = lowest-in _ _ _ (start c .pre .0 .0) (length-counts _ _ (start c .pre .0 .0 .shape)) _ (c .lowest-free .ensures)
+inside c = lowest-in _ _ _ (start c .pre .0) (length-counts _ _ (start c .pre .0 .shape)) _ (c .lowest-free .ensures)
 
 write-block-requires : tie.Need-write-block-requires
 write-block-requires c κs =
-    let pre = start (c .before .before .before) .pre in
-    let passed = pre .0 .0 in
-    ((passed .shape, passed .sound, passed .fits, pre .0 .1, inside (c .before .before .before)), write-ready _ _ _ passed _ _ (pre .1 .0) (pre .1 .1))
+    let at = c .before .before in
+    let passed = start at .pre .0 in
+    ((passed .shape, passed .sound, passed .fits, inside at), write-ready _ _ _ passed _ (start at .pre .1))
 
 mul-result : tie.Need-mul-result
-mul-result c = omega (arith, block-fits _ _ _ (start′ c .pre .0 .0) _ (inside (after-lowest-free c)))
+mul-result c = omega (arith, block-fits _ _ _ (start′ c .pre .0) _ (inside (after-lowest-free c)))
 
 returns-2 : tie.Need-returns-2
 returns-2 c =
     let pre = start′ c .pre in
     let made = after-write-block c .write-block .ensures in
-    some-moved _ _ _ (pre .0 .0) _ _ (pre .1 .0) (pre .1 .1) (after-lowest-free c .before .before .if1 .left) _ (after-lowest-free c .lowest-free .ensures) _ _ _ _ (made .0) (made .1 .0) (made .1 .1)
+    some-moved _ _ _ (pre .0) _ (pre .1) (after-lowest-free c .before .before .if1 .left) _ (after-lowest-free c .lowest-free .ensures) _ _ (made .0) (made .1)
 
 pub write-moves-spec : {M : Type 1} → statement M
 write-moves-spec = tie.close (tie.spec returns (λ c κs. search needs) write-block-requires mul-result
-    (λ c. search needs) (λ c. search needs) (λ c. search needs) returns-2)
+    (λ c. search needs) (λ c. search needs) returns-2)
