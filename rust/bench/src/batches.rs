@@ -8,7 +8,7 @@ use hedjosur_baseline::sort::{ascends, sort_batch, BATCH};
 use hedjosur_model::testing::Random;
 use hedjosur_probe_sys as probe;
 
-use crate::print;
+use crate::row;
 use crate::timing::compare;
 
 /// How many inputs of a pattern take turns.
@@ -89,14 +89,15 @@ pub fn learning() {
                     }
                 }
             };
-            let times = compare(
-                &mut [0; 8 * BATCH],
-                batches.len(),
-                |_| (),
-                run(learn_checked),
-                run(probe::learn),
-            );
-            print("learn", &format!("{}, g {bound}", pattern.0), times);
+            row("learn", &format!("{}, g {bound}", pattern.0), || {
+                compare(
+                    &mut [0; 8 * BATCH],
+                    batches.len(),
+                    |_| (),
+                    run(learn_checked),
+                    run(probe::learn),
+                )
+            });
         }
     }
 }
@@ -113,14 +114,15 @@ pub fn sorting() {
                 }
             }
         };
-        let times = compare(
-            &mut [[0; BATCH]; 2],
-            batches.len(),
-            |_| (),
-            run(sort),
-            run(probe::sort),
-        );
-        print("sort", pattern.0, times);
+        row("sort", pattern.0, || {
+            compare(
+                &mut [[0; BATCH]; 2],
+                batches.len(),
+                |_| (),
+                run(sort),
+                run(probe::sort),
+            )
+        });
     }
 }
 

@@ -10,7 +10,7 @@ use hedjosur_model::state::State;
 use hedjosur_model::testing::{batch, lists, Random};
 
 use crate::kinds;
-use crate::print;
+use crate::row;
 use crate::timing::compare;
 
 /// All that is lent to the calls on a device.
@@ -182,12 +182,13 @@ pub fn time_each<T>(
             }
         }
     };
-    let times = compare(
-        &mut changed.collect(),
-        arguments.len(),
-        |work: &mut Vec<Changed>| work.iter_mut().for_each(Changed::restore),
-        run(&Baseline),
-        run(&Exported),
-    );
-    print(function, input, times);
+    row(function, input, || {
+        compare(
+            &mut changed.collect(),
+            arguments.len(),
+            |work: &mut Vec<Changed>| work.iter_mut().for_each(Changed::restore),
+            run(&Baseline),
+            run(&Exported),
+        )
+    });
 }

@@ -12,7 +12,7 @@ use hedjosur_model::testing::{full_device, Random};
 use crate::batches::{inputs, LEARNED};
 use crate::buffers::{time, time_each, Buffers};
 use crate::kinds::{self, Kind, MIXED};
-use crate::print;
+use crate::row;
 use crate::timing::compare;
 
 /// How many groups of a kind take turns.
@@ -65,30 +65,31 @@ pub fn lookup() {
             .map(|seed| Lookups::new(kind, bound, seed))
             .collect();
         let lookups = work.iter().map(|one| one.pages.len()).sum();
-        let times = compare(
-            &mut work,
-            lookups,
-            |_| (),
-            |work| {
-                for Lookups { buffers, pages } in work {
-                    for &page in pages.iter() {
-                        let _ = black_box(device::lookup(&buffers.state, &buffers.area, page));
+        row("lookup", &format!("{}, g {bound}", kind.0), || {
+            compare(
+                &mut work,
+                lookups,
+                |_| (),
+                |work| {
+                    for Lookups { buffers, pages } in work {
+                        for &page in pages.iter() {
+                            let _ = black_box(device::lookup(&buffers.state, &buffers.area, page));
+                        }
                     }
-                }
-            },
-            |work| {
-                for Lookups { buffers, pages } in work {
-                    let device = hedjosur::Device {
-                        state: &buffers.state[..],
-                        spare: &buffers.area[..],
-                    };
-                    for &page in pages.iter() {
-                        let _ = black_box(device.lookup(page));
+                },
+                |work| {
+                    for Lookups { buffers, pages } in work {
+                        let device = hedjosur::Device {
+                            state: &buffers.state[..],
+                            spare: &buffers.area[..],
+                        };
+                        for &page in pages.iter() {
+                            let _ = black_box(device.lookup(page));
+                        }
                     }
-                }
-            },
-        );
-        print("lookup", &format!("{}, g {bound}", kind.0), times);
+                },
+            )
+        });
     }
 }
 

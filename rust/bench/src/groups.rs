@@ -12,7 +12,7 @@ use hedjosur_model::testing::{any_record, Random};
 use hedjosur_probe_sys as probe;
 
 use crate::kinds::{self, Kind};
-use crate::print;
+use crate::row;
 use crate::timing::compare;
 
 /// The check of soundness, by the baseline or the proved code.
@@ -48,14 +48,15 @@ pub fn soundness() {
                 }
             }
         };
-        let times = compare(
-            &mut groups_of(kind),
-            GROUPS as usize,
-            |_| (),
-            run(group::sound),
-            run(probe::sound),
-        );
-        print("sound", kind.0, times);
+        row("sound", kind.0, || {
+            compare(
+                &mut groups_of(kind),
+                GROUPS as usize,
+                |_| (),
+                run(group::sound),
+                run(probe::sound),
+            )
+        });
     }
 }
 
@@ -72,14 +73,15 @@ pub fn finding() {
                 }
             }
         };
-        let times = compare(
-            &mut groups_of(kind),
-            GROUPS as usize,
-            |_| (),
-            run(find),
-            run(probe::find),
-        );
-        print("find", kind.0, times);
+        row("find", kind.0, || {
+            compare(
+                &mut groups_of(kind),
+                GROUPS as usize,
+                |_| (),
+                run(find),
+                run(probe::find),
+            )
+        });
     }
 }
 
@@ -142,14 +144,15 @@ pub fn insertion() {
                 black_box(probe::insert(part, &new.record, &new.mask));
             }
         };
-        let times = compare(
-            &mut Changed::new(kind),
-            GROUPS as usize,
-            Changed::restore,
-            baseline,
-            proved,
-        );
-        print("insert", kind.0, times);
+        row("insert", kind.0, || {
+            compare(
+                &mut Changed::new(kind),
+                GROUPS as usize,
+                Changed::restore,
+                baseline,
+                proved,
+            )
+        });
     }
 }
 
@@ -163,14 +166,15 @@ pub fn compaction() {
                 }
             }
         };
-        let times = compare(
-            &mut Changed::new(kind),
-            GROUPS as usize,
-            Changed::restore,
-            run(compact),
-            run(probe::compact),
-        );
-        print("compact", kind.0, times);
+        row("compact", kind.0, || {
+            compare(
+                &mut Changed::new(kind),
+                GROUPS as usize,
+                Changed::restore,
+                run(compact),
+                run(probe::compact),
+            )
+        });
     }
 }
 

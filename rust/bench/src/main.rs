@@ -3,7 +3,8 @@
 //! calls.
 //!
 //! `cargo run --release -p hedjosur-bench` in this workspace, best on a machine
-//! with nothing else to do; with names of functions behind `--` these alone.
+//! with nothing else to do; behind `--` the name of a function, and of an input if
+//! you like, as the table has them: `-- insert "256 records, flat"`.
 
 #![forbid(unsafe_code)]
 
@@ -36,30 +37,33 @@ const PARTS: [(&str, fn()); 13] = [
 ];
 
 fn main() -> ExitCode {
-    let asked: Vec<String> = std::env::args().skip(1).collect();
-    for name in &asked {
-        if PARTS.iter().all(|(part, _)| part != name) {
-            let mut names = PARTS.map(|(part, _)| part).to_vec();
-            names.dedup();
-            eprintln!("no function {name}; there are {}", names.join(", "));
-            return ExitCode::from(2);
-        }
+    let function = std::env::args().nth(1);
+    let asked: Vec<_> = PARTS
+        .into_iter()
+        .filter(|(name, _)| function.as_deref().is_none_or(|function| function == *name))
+        .collect();
+    if asked.is_empty() {
+        let mut names = PARTS.map(|(name, _)| name).to_vec();
+        names.dedup();
+        eprintln!("there is no such function; there are {}", names.join(", "));
+        return ExitCode::from(2);
     }
     println!(
         "{:<12} {:<30} {:>12} {:>12} {:>8}",
         "function", "input", "baseline µs", "proved µs", "ratio"
     );
-    for (name, time) in PARTS {
-        if asked.is_empty() || asked.iter().any(|asked| asked == name) {
-            time();
-        }
+    for (_, time) in asked {
+        time();
     }
     ExitCode::SUCCESS
 }
 
-/// Prints one line of the table.
-fn print(function: &str, input: &str, times: Comparison) {
-    let Comparison { baseline, proved } = times;
+/// Times one line of the table and prints it, unless another input was asked for.
+fn row(function: &str, input: &str, times: impl FnOnce() -> Comparison) {
+    if std::env::args().nth(2).is_some_and(|asked| asked != input) {
+        return;
+    }
+    let Comparison { baseline, proved } = times();
     let ratio = proved / baseline;
     println!("{function:<12} {input:<30} {baseline:>12.3} {proved:>12.3} {ratio:>8.2}");
 }
