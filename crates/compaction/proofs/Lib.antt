@@ -7,7 +7,7 @@ pub mod Starts
 pub mod OneLevel
 pub mod Passing
 pub mod Whole
-pub mod Marks
+pub mod Adding
 pub mod Members
 pub mod Spreading
 pub mod Gathering

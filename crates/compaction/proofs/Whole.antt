@@ -146,7 +146,7 @@ module _ {b : List ℕ} (ok : Compactable b) {m : ℕ} (used : m ≡ length (slo
     once = once;
     same = refl;
     mask = length-replicate {A = ℕ} 256 0;
-    marks = λ o h. ap (λ (x : ℕ). not (eqb x 0)) (getD-replicate 256 o 0 0 h);
+    members = λ o h. ap (λ (x : ℕ). not (eqb x 0)) (getD-replicate 256 o 0 0 h);
     table = length-replicate {A = ℕ} 256 0;
     deeps = λ o h. getD-replicate {A = ℕ} 256 o 0 0 h;
   }

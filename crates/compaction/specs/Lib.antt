@@ -1,5 +1,5 @@
 pub mod Levels
 pub mod Order
-pub mod Marking
+pub mod Adding
 pub mod Ordering
 pub mod Passing

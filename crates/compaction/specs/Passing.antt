@@ -39,7 +39,7 @@ pub record Passing (g : Group) (b above deep : List ℕ) (i n : ℕ) : Type 0 wh
   pub once : OwnedOnce (kept ++ rest)
   pub same : kept ++ shrinkAll passed rest ≡ shrinkAll [] (listing g)
   pub mask : length above ≡ offsets
-  pub marks : (o : ℕ) → o < offsets → masked above o ≡ memberOfAny passed o
+  pub members : (o : ℕ) → o < offsets → masked above o ≡ memberOfAny passed o
   pub table : length deep ≡ offsets
   pub deeps : (o : ℕ) → o < offsets → getD deep o 0 ≡ depth (point o) (putBack kept [])
 

@@ -25,19 +25,19 @@ use Rattle.slots.specs.View.{Shows, LeftOf}
 use Rattle.slots.proofs.SlotPass.{behindFirst, behind-end}
 use Rattle.group.specs.Cutting.{Placed}
 use Rattle.insertion.specs.Slots.{noSlot, heldAt, keepSlot, keepAt, keepNext}
-use Rattle.insertion.specs.InsertSlots.{given, Marked, isLoser, giveUpSlots}
+use Rattle.insertion.specs.InsertSlots.{given, Noted, isLoser, giveUpSlots}
 use Rattle.insertion.specs.Shown.{Shown}
 use Rattle.insertion.proofs.GiveUp.{given-approximate}
 use Rattle.insertion.proofs.Steps.{shown-length}
 use Rattle.insertion.proofs.Remaining.{slot-is, numbers, nothing-left, record-left, kept-shown, gone-shown}
-use Rattle.insertion.proofs.Losing.{keeps-unmarked, still-marked}
+use Rattle.insertion.proofs.Losing.{keeps-unnoted, still-noted}
 
 -- slot i of the bytes b has its turn: the bytes d hold the list with what is left of it, and slot j is next
 abbrev pub Gives : (ℕ → Bool) → List ℕ → List ℕ → ℕ → ℕ → Type 0
 Gives lost b d i j = (l : List Placed) → Shown b l → Shown d (keepAt i (getD l i noSlot .level) (given lost (heldAt i l)) l) × (j ≡ keepNext i (given lost (heldAt i l)))
 
 module _ (b : List ℕ) (i : ℕ) (h : i < length (slotsOf b)) (s : Slot) (got : s ≡ getD (slotsOf b) i answers.noSlot) (taken losers : List ℕ)
-    (t : Bool) (loses : (K : List ℕ) → t ≡ isLoser losers (asRecord (s .held) K)) (marked : Marked b taken losers) where
+    (t : Bool) (loses : (K : List ℕ) → t ≡ isLoser losers (asRecord (s .held) K)) (noted : Noted b taken losers) where
   loses-is : (l : List Placed) → Shown b l → isLoser losers (heldAt i l) ≡ t
   loses-is l shown = sym (loses (heldAt i l .owned) ∙ ap (λ (y : Record). isLoser losers (asRecord y (heldAt i l .owned))) (numbers b l shown i h s got))
 
@@ -45,7 +45,7 @@ module _ (b : List ℕ) (i : ℕ) (h : i < length (slotsOf b)) (s : Slot) (got :
   pub give-none : t ≡ false → Gives (masked taken) b b i (i + 1)
   unfolding keepAt keepNext
   give-none n l shown =
-      let e : given (masked taken) (heldAt i l) ≡ some (heldAt i l) = keeps-unmarked b l shown taken losers marked i h (loses-is l shown ∙ n) in
+      let e : given (masked taken) (heldAt i l) ≡ some (heldAt i l) = keeps-unnoted b l shown taken losers noted i h (loses-is l shown ∙ n) in
       rw e (subst (Shown b) (sym (set-getD l i noSlot)) shown, add-one i)
 
   module _ (y : t ≡ true) (c : List ℕ) (x : Left) (left : LeftOf b c taken (s .held) x) where
@@ -54,10 +54,10 @@ module _ (b : List ℕ) (i : ℕ) (h : i < length (slotsOf b)) (s : Slot) (got :
     slope l shown = given-approximate (masked taken) (heldAt i l) (and-l (isApproximate (kind (heldAt i l))) _ (loses-is l shown ∙ y))
 
     -- A loser of which something is left.
-    pub give-kept : (u : Record) → x ≡ Kept u → (d : List ℕ) → Shows d (set (slotsOf c) i (record { level = s .level; held = u })) (ownerOf c) → Marked d taken losers × Gives (masked taken) b d i (i + 1)
+    pub give-kept : (u : Record) → x ≡ Kept u → (d : List ℕ) → Shows d (set (slotsOf c) i (record { level = s .level; held = u })) (ownerOf c) → Noted d taken losers × Gives (masked taken) b d i (i + 1)
     unfolding keepNext
     give-kept u q d put = (
-      still-marked b c d taken losers (s .held) x marked left (put .2),
+      still-noted b c d taken losers (s .held) x noted left (put .2),
       λ l shown.
           let level : s .level ≡ getD l i noSlot .level = ap (λ (z : Slot). z .level) (slot-is b l shown i h s got) in
           let kept = kept-shown b l shown i h s got c taken x left u (s .level) d q put in
@@ -65,10 +65,10 @@ module _ (b : List ℕ) (i : ℕ) (h : i < length (slotsOf b)) (s : Slot) (got :
     )
 
     -- One of which nothing is left.
-    pub give-gone : x ≡ Gone → (d : List ℕ) → Shows d (removeAt i (slotsOf c)) (ownerOf c) → Marked d taken losers × Gives (masked taken) b d i i
+    pub give-gone : x ≡ Gone → (d : List ℕ) → Shows d (removeAt i (slotsOf c)) (ownerOf c) → Noted d taken losers × Gives (masked taken) b d i i
     unfolding keepNext
     give-gone q d put = (
-      still-marked b c d taken losers (s .held) x marked left (put .2),
+      still-noted b c d taken losers (s .held) x noted left (put .2),
       λ l shown.
           rw (slope l shown) (gone-shown b l shown i h s got c taken x left (getD l i noSlot .level) d q put, rw (nothing-left b l shown i h s got c taken x left q)),
     )

@@ -34,7 +34,7 @@ use Rattle.slots.specs.Owners.{takenBy}
 use Rattle.slots.proofs.Maps.{map-insertAt}
 use Rattle.insertion.specs.Flat.{tag}
 use Rattle.insertion.specs.Slots.{slot, records}
-use Rattle.insertion.specs.InsertSlots.{Marked, Marking, giveUpSlots, settle}
+use Rattle.insertion.specs.InsertSlots.{Noted, Noting, giveUpSlots, settle}
 use Rattle.insertion.specs.Shown.{weight, Shown}
 use Rattle.insertion.specs.Ready.{Parted, Ready}
 use Rattle.insertion.specs.Turns.{MadeWay}
@@ -137,16 +137,16 @@ module _ (b m : List ℕ) (r : Record) (q : Ready b m r) where
   pub mask-in-range : (o : ℕ) → o < 256 → masked m o ≡ true → (r .start ≤ o) × (o ≤ r .start + r .span)
   mask-in-range o h e = sound-within 256 0 R sound-R o (sym (q .members o h) ∙ e)
 
-  -- the marks made over the record's range are those of all its offsets
-  module _ (losers : List ℕ) (t : Bool) (marking : Marking b m losers (r .start) (r .start + r .span + 1) t) where
-    marks-at : (o : ℕ) → o < 256 → masked m o ≡ true → 0 < ownerOf b o → (masked losers (ownerOf b o) ≡ true) × (t ≡ true)
-    marks-at o h e = marking .marks o (mask-in-range o h e .0) (omega (arith, mask-in-range o h e .1)) e
+  -- the notes made over the record's range are those of all its offsets
+  module _ (losers : List ℕ) (t : Bool) (noting : Noting b m losers (r .start) (r .start + r .span + 1) t) where
+    notes-at : (o : ℕ) → o < 256 → masked m o ≡ true → 0 < ownerOf b o → (masked losers (ownerOf b o) ≡ true) × (t ≡ true)
+    notes-at o h e = noting .notes o (mask-in-range o h e .0) (omega (arith, mask-in-range o h e .1)) e
 
-    pub marking-marked : Marked b m losers
-    marking-marked o h e p = marks-at o h e p .0
+    pub noting-all : Noted b m losers
+    noting-all o h e p = notes-at o h e p .0
 
-    pub unmarked-unowned : t ≡ false → (o : ℕ) → o < 256 → masked m o ≡ true → 0 < ownerOf b o → ⊥
-    unmarked-unowned n o h e p = true≢false (sym (marks-at o h e p .1) ∙ n)
+    pub unnoted-unowned : t ≡ false → (o : ℕ) → o < 256 → masked m o ≡ true → 0 < ownerOf b o → ⊥
+    unnoted-unowned n o h e p = true≢false (sym (notes-at o h e p .1) ∙ n)
 
   -- A single or accurate record: nothing is given up. An approximate one: the others gave up its offsets.
   pub settled-exact : isApproximate (kind R) ≡ false → Shown b (settle 0 0 (flat given-up))

@@ -12,7 +12,7 @@ pub mod Lowering
 pub mod Turning
 pub mod MakingWay
 pub mod GiveUp
-pub mod Marks
+pub mod Noting
 pub mod Losing
 pub mod GivingUp
 pub mod Settling

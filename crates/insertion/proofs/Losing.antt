@@ -1,4 +1,4 @@
--- Which approximate records lose offsets to a new one: a record that loses none stays as it is, and one whose number isn't marked loses
+-- Which approximate records lose offsets to a new one: a record that loses none stays as it is, and one whose number isn't noted loses
 -- none. Assumes nothing.
 use mathlib.Core.Path.{_≡_, refl, sym, _∙_, ap}
 use mathlib.Core.List.{List, [], _∷_}
@@ -28,7 +28,7 @@ use Rattle.slots.specs.View.{LeftOf}
 use Rattle.slots.specs.Owners.{either, ownerLeft}
 use Rattle.slots.proofs.Owning.{owner-exact, owner-named, owner-other}
 use Rattle.insertion.specs.Slots.{heldAt, records, keepSlot}
-use Rattle.insertion.specs.InsertSlots.{given, Marked, isLoser, giveUpSlots}
+use Rattle.insertion.specs.InsertSlots.{given, Noted, isLoser, giveUpSlots}
 use Rattle.insertion.specs.Shown.{weight, Shown}
 use Rattle.insertion.proofs.Weights.{Weighs, yes, no, weighs, unowned, sound-ends, first-owned}
 use Rattle.insertion.proofs.GiveUp.{given-other, given-approximate}
@@ -84,11 +84,11 @@ module _ (b : List ℕ) (l : List Placed) (shown : Shown b l) where
             let low : o < 256 = omega (arith, sound-within 256 0 (heldAt i l) sound o (owned-member (heldAt i l) o a ∙ e) .1, record-parts 256 0 (heldAt i l) sound .byte) in
             free a o low (eqb-true _ _ (held-names b l shown i h a o low ∙ e)))
 
-    -- one that isn't marked
-    pub keeps-unmarked : (losers : List ℕ) → Marked b taken losers → (i : ℕ) → i < length (slotsOf b) → isLoser losers (heldAt i l) ≡ false → given (masked taken) (heldAt i l) ≡ some (heldAt i l)
+    -- one that isn't noted
+    pub keeps-unnoted : (losers : List ℕ) → Noted b taken losers → (i : ℕ) → i < length (slotsOf b) → isLoser losers (heldAt i l) ≡ false → given (masked taken) (heldAt i l) ≡ some (heldAt i l)
     unfolding isLoser
-    keeps-unmarked losers marked i h n = keeps-all i h (λ a o k e. is-false (masked taken o) (λ t.
-        let m : masked losers (ownerOf b o) ≡ true = marked o k t (omega arith) in
+    keeps-unnoted losers noted i h n = keeps-all i h (λ a o k e. is-false (masked taken o) (λ t.
+        let m : masked losers (ownerOf b o) ≡ true = noted o k t (omega arith) in
         true≢false (sym (and-i (isApproximate (kind (heldAt i l))) _ a (ap (masked losers) (sym e) ∙ m)) ∙ n)))
 
     -- all of them, where no offset taken has an owner
@@ -102,16 +102,16 @@ module _ (b : List ℕ) (l : List Placed) (shown : Shown b l) where
             ap (λ (x : Option Record). keepSlot (s .level) x (giveUpSlots (masked taken) k)) (each 0 (omega arith))
             ∙ ap (λ (m : List Placed). s ∷ m) (go k (λ i h. each (suc i) (omega arith)))
 
--- offsets taken lose their owner or keep it, so that whoever owns one is still marked
-pub still-marked : (b c d taken losers : List ℕ) (r : declared.Record) (x : Left) → Marked b taken losers → LeftOf b c taken r x → ((o : ℕ) → o < 256 → ownerOf d o ≡ ownerOf c o) → Marked d taken losers
+-- offsets taken lose their owner or keep it, so that whoever owns one is still noted
+pub still-noted : (b c d taken losers : List ℕ) (r : declared.Record) (x : Left) → Noted b taken losers → LeftOf b c taken r x → ((o : ℕ) → o < 256 → ownerOf d o ≡ ownerOf c o) → Noted d taken losers
 unfolding either
-still-marked b c d taken losers r x marked left same o h t some-owner = go (isApproximate (kindOf (r .word))) (eqb (ownerOf b o) (suc (r .start))) refl refl
+still-noted b c d taken losers r x noted left same o h t some-owner = go (isApproximate (kindOf (r .word))) (eqb (ownerOf b o) (suc (r .start))) refl refl
   where
     is : ownerOf d o ≡ ownerLeft r x (masked taken o) (ownerOf b o)
     is = same o h ∙ left .owners o h
 
     kept : ownerOf d o ≡ ownerOf b o → masked losers (ownerOf d o) ≡ true
-    kept e = ap (masked losers) e ∙ marked o h t (omega arith)
+    kept e = ap (masked losers) e ∙ noted o h t (omega arith)
 
     go : (a n : Bool) → isApproximate (kindOf (r .word)) ≡ a → eqb (ownerOf b o) (suc (r .start)) ≡ n → masked losers (ownerOf d o) ≡ true
     go false n a e = kept (is ∙ owner-exact r x (masked taken o) (ownerOf b o) a)

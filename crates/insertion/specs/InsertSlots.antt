@@ -17,16 +17,16 @@ use Rattle.insertion.specs.Slots.{slot, keepSlot}
 unfoldable pub given : (ℕ → Bool) → Record → Option Record
 given lost r = elim (isApproximate (kind r)) [ true ↦ shrink lost r | false ↦ some r ]
 
--- whoever owns an offset taken is marked among the losers, by the owner's number
-abbrev pub Marked : List ℕ → List ℕ → List ℕ → Type 0
-Marked b taken losers = (o : ℕ) → o < 256 → masked taken o ≡ true → 0 < ownerOf b o → masked losers (ownerOf b o) ≡ true
+-- whoever owns an offset taken is noted among the losers, by the owner's number
+abbrev pub Noted : List ℕ → List ℕ → List ℕ → Type 0
+Noted b taken losers = (o : ℕ) → o < 256 → masked taken o ≡ true → 0 < ownerOf b o → masked losers (ownerOf b o) ≡ true
 
--- the owners of the mask's offsets from `start` to before `end` are marked; whether there is one is told
-pub record Marking (b mask losers : List ℕ) (start end : ℕ) (some-own : Bool) : Type 0 where
+-- the owners of the mask's offsets from `start` to before `end` are noted; whether there is one is told
+pub record Noting (b mask losers : List ℕ) (start end : ℕ) (some-own : Bool) : Type 0 where
   pub size : length losers ≡ 257
-  pub marks : (o : ℕ) → start ≤ o → o < end → masked mask o ≡ true → 0 < ownerOf b o → (masked losers (ownerOf b o) ≡ true) × (some-own ≡ true)
+  pub notes : (o : ℕ) → start ≤ o → o < end → masked mask o ≡ true → 0 < ownerOf b o → (masked losers (ownerOf b o) ≡ true) × (some-own ≡ true)
 
--- an approximate record that is marked
+-- an approximate record that is noted
 unfoldable pub isLoser : List ℕ → Record → Bool
 isLoser losers r = isApproximate (kind r) && masked losers (suc (r .start))
 

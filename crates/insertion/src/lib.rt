@@ -21,7 +21,7 @@ ghost use Rattle.group.specs.Reading.{readGroup};
 ghost use Rattle.slots.specs.View.{Room, Shows, Owned};
 ghost use Rattle.slots.specs.Owners.{either};
 ghost use Rattle.insertion.specs.Slots.{noSlot, heldAt, keepAt, keepNext};
-ghost use Rattle.insertion.specs.InsertSlots.{given, Marked, Marking, isLoser, giveUpSlots, settle};
+ghost use Rattle.insertion.specs.InsertSlots.{given, Noted, Noting, isLoser, giveUpSlots, settle};
 ghost use Rattle.insertion.specs.Shown.{Shown, Tidy};
 ghost use Rattle.insertion.specs.Ready.{Masks, Parted, Ready};
 ghost use Rattle.insertion.specs.Turns.{Laid, Facing, MadeWay, side, outcome, endsBefore, countAhead, meetsFirst};
@@ -44,11 +44,11 @@ fn if_taken(w: u32, taken: bool) -> u32
     0
 }
 
-// Marks whoever owns one of the mask's offsets from `start` to before `end`; whether somebody does.
-fn mark(b: &[u8], start: u32, end: u32, mask: &[u8], losers: &mut [u8]) -> bool
+// Notes whoever owns one of the mask's offsets from `start` to before `end`; whether somebody does.
+fn note_losers(b: &[u8], start: u32, end: u32, mask: &[u8], losers: &mut [u8]) -> bool
     requires { ⌜ (length (now b) ≡ groupLength) × Owned (now b) × (end ≤ 256) × (length (now mask) ≡ 256) × (length (now losers) ≡ 257)
         × ((o : ℕ) → o < 256 → ownerOf (now b) o ≤ 256) ⌝ }
-    ensures { λ t. ⌜ Marking (now (b .entry)) (now (mask .entry)) (now (losers .exit)) start end t ⌝ }
+    ensures { λ t. ⌜ Noting (now (b .entry)) (now (mask .entry)) (now (losers .exit)) start end t ⌝ }
 {
     let mut any = 0;
     let mut o = start;
@@ -62,7 +62,7 @@ fn mark(b: &[u8], start: u32, end: u32, mask: &[u8], losers: &mut [u8]) -> bool
     any != 0
 }
 
-// Whether a record is approximate and marked.
+// Whether a record is approximate and noted.
 fn loses(r: Record, losers: &[u8]) -> bool
     requires { ⌜ (r .start < 256) × (length (now losers) ≡ 257) ⌝ }
     ensures { λ t. ⌜ ((K : List ℕ) → t ≡ isLoser (now (losers .entry)) (asRecord r K)) ⌝ }
@@ -75,8 +75,8 @@ fn loses(r: Record, losers: &[u8]) -> bool
 
 // Slot i, if it is a loser, gives up the offsets taken: its record shrinks, or goes. Answers the index of the slot that is next.
 fn give_up(b: &mut [u8], i: u32, taken: &[u8], losers: &[u8]) -> u32
-    requires { ⌜ Tidy (now b) × (i < length (slotsOf (now b))) × (length (now taken) ≡ 256) × (length (now losers) ≡ 257) × Marked (now b) (now taken) (now losers) ⌝ }
-    ensures { λ x. ⌜ Marked (now (b .exit)) (now (taken .entry)) (now (losers .entry))
+    requires { ⌜ Tidy (now b) × (i < length (slotsOf (now b))) × (length (now taken) ≡ 256) × (length (now losers) ≡ 257) × Noted (now b) (now taken) (now losers) ⌝ }
+    ensures { λ x. ⌜ Noted (now (b .exit)) (now (taken .entry)) (now (losers .entry))
         × ((l : List Placed) → Shown (now (b .entry)) l → Shown (now (b .exit)) (keepAt i (getD l i noSlot .level) (given (masked (now (taken .entry))) (heldAt i l)) l)
         × (x ≡ keepNext i (given (masked (now (taken .entry))) (heldAt i l)))) ⌝ }
 {
@@ -106,7 +106,7 @@ fn give_up(b: &mut [u8], i: u32, taken: &[u8], losers: &[u8]) -> u32
 
 // Every loser gives up the offsets taken. Answers how many slots are left.
 fn give_up_all(b: &mut [u8], taken: &[u8], losers: &[u8]) -> u32
-    requires { ⌜ Tidy (now b) × (length (now taken) ≡ 256) × (length (now losers) ≡ 257) × Marked (now b) (now taken) (now losers) ⌝ }
+    requires { ⌜ Tidy (now b) × (length (now taken) ≡ 256) × (length (now losers) ≡ 257) × Noted (now b) (now taken) (now losers) ⌝ }
     ensures { λ x. ⌜ ((l : List Placed) → Shown (now (b .entry)) l → Shown (now (b .exit)) (giveUpSlots (masked (now (taken .entry))) l)
         × (x ≡ length (giveUpSlots (masked (now (taken .entry))) l))) ⌝ }
 {
@@ -286,7 +286,7 @@ fn clear_way(b: &mut [u8], r: Record, mask: &[u8])
     }
     let start = r.start;
     let mut losers = [0u8; 257];
-    if !mark(b, start, start + r.span + 1, mask, &mut losers) {
+    if !note_losers(b, start, start + r.span + 1, mask, &mut losers) {
         return;
     }
     let n = slots::used(b);

@@ -23,7 +23,7 @@ use Rattle.group.proofs.Holding.{sound-held}
 use Rattle.group.proofs.Members.{every-of}
 use Rattle.group.proofs.Soundness.{sound-encodes}
 use Rattle.insertion.specs.Ready.{Masks, Ready}
-use Rattle.probe.specs.Groups.{outside, bit, isSound, recordBy, marks, fitting, hasRoom, insertable, Inserts}
+use Rattle.probe.specs.Groups.{outside, bit, isSound, recordBy, masks, fitting, hasRoom, insertable, Inserts}
 use Rattle.probe.proofs.Conditions.{size, sound}
 
 -- a mask's byte by the bit that it is
@@ -93,9 +93,9 @@ module _ (b e m : List ℕ) where
     fits-record = and-l (soundRecord 256 0 R) _ fits
 
     has-members : Masks m R
-    unfolding fitting marks
+    unfolding fitting masks
     has-members o h =
-        let a = every-of (marks m (recordAt e 0)) 256 0 (and-r (soundRecord 256 0 R) _ fits) o (omega arith) (omega arith) in
+        let a = every-of (masks m (recordAt e 0)) 256 0 (and-r (soundRecord 256 0 R) _ fits) o (omega arith) (omega arith) in
         let q : getD m o 0 ≡ bit (member R o) = eqb-true _ _ a in
         ap (λ (n : ℕ). not (eqb n 0)) q ∙ bit-masked (member R o)
 

@@ -2,5 +2,5 @@ pub mod Bytes
 pub mod Batches
 pub mod Conditions
 pub mod Filling
-pub mod Marks
+pub mod Masks
 pub mod Insertion

@@ -76,12 +76,12 @@ abbrev pub recordBy : List ℕ → Record → model.Record
 recordBy m r = recordOf (ownersBy m r) (record { level = 0; held = r })
 
 -- at offset o the mask is 1 if that is a member of the record, else 0
-unfoldable pub marks : List ℕ → Record → ℕ → Bool
-marks m r o = eqb (getD m o 0) (bit (member (recordBy m r) o))
+unfoldable pub masks : List ℕ → Record → ℕ → Bool
+masks m r o = eqb (getD m o 0) (bit (member (recordBy m r) o))
 
 -- the record is one that a sound group may have, and the mask has its members
 unfoldable pub fitting : List ℕ → Record → Bool
-fitting m r = soundRecord offsets 0 (recordBy m r) && everyFrom (marks m r) offsets 0
+fitting m r = soundRecord offsets 0 (recordBy m r) && everyFrom (masks m r) offsets 0
 
 -- a sound group that isn't full
 unfoldable pub hasRoom : List ℕ → Bool
@@ -98,13 +98,13 @@ Inserts true b e m b′ r =
 Inserts false b e m b′ r = (b′ ≡ b) × (r ≡ outside)
 
 -- How the condition is tested. At offset o, by the mask's byte: 0 and no member, or 1 and a member in the range.
-unfoldable pub markedAs : ℕ → Bool → Bool → Bool
-markedAs zero isMember isCovered = not isMember
-markedAs (suc zero) isMember isCovered = isCovered && isMember
-markedAs (suc (suc n)) isMember isCovered = false
+unfoldable pub testedAs : ℕ → Bool → Bool → Bool
+testedAs zero isMember isCovered = not isMember
+testedAs (suc zero) isMember isCovered = isCovered && isMember
+testedAs (suc (suc n)) isMember isCovered = false
 
-abbrev pub marked : List ℕ → Record → ℕ → Bool
-marked m r o = markedAs (getD m o 0) (member (recordBy m r) o) (covers (recordBy m r) o)
+abbrev pub tested : List ℕ → Record → ℕ → Bool
+tested m r o = testedAs (getD m o 0) (member (recordBy m r) o) (covers (recordBy m r) o)
 
 -- the mask has offset o, one of s to e
 abbrev pub maskedIn : List ℕ → ℕ → ℕ → ℕ → Bool
@@ -115,6 +115,6 @@ abbrev pub Expected : (ℕ → Bool) → List ℕ → Type 0
 Expected t l = (length l ≡ offsets) × ((o : ℕ) → o < offsets → getD l o 0 ≡ bit (t o))
 
 -- and the mask has the first and last offset of an approximate record
-unfoldable pub endsMarked : Bool → List ℕ → Record → Bool
-endsMarked false m r = true
-endsMarked true m r = masked m (r .start) && masked m (endOf r)
+unfoldable pub endsMasked : Bool → List ℕ → Record → Bool
+endsMasked false m r = true
+endsMasked true m r = masked m (r .start) && masked m (endOf r)

@@ -12,7 +12,7 @@ ghost use Rattle.record.specs.Scan.{onStride};
 ghost use Rattle.group.specs.Layout.{offsets};
 ghost use Rattle.group.specs.Reading.{everyFrom};
 ghost use Rattle.group.specs.Checking.{approx, shaped};
-ghost use Rattle.probe.specs.Groups.{bit, soundness, isSound, finding, Compacts, maskedIn, Expected, marked, endsMarked, fitting, hasRoom, insertable, Inserts};
+ghost use Rattle.probe.specs.Groups.{bit, soundness, isSound, finding, Compacts, maskedIn, Expected, tested, endsMasked, fitting, hasRoom, insertable, Inserts};
 
 // The places of a search's values.
 const BIT16: u64 = 65536;
@@ -115,7 +115,7 @@ fn expect_strided(s: usize, d: usize, e: usize, expected: &mut [u8])
 fn expect(r: Record, mask: &[u8], expected: &mut [u8])
     requires { ⌜ (length (now mask) ≡ offsets) × (shaped offsets r ≡ true) × InEight r × Expected (λ o. false) (now expected) ⌝ }
     ensures { λ _. ⌜ (length (now (expected .exit)) ≡ offsets)
-        × ((o : ℕ) → o < offsets → eqb (getD (now (mask .entry)) o 0) (getD (now (expected .exit)) o 0) ≡ marked (now (mask .entry)) r o) ⌝ }
+        × ((o : ℕ) → o < offsets → eqb (getD (now (mask .entry)) o 0) (getD (now (expected .exit)) o 0) ≡ tested (now (mask .entry)) r o) ⌝ }
 {
     let s = r.start as usize;
     let e = (r.start + r.span) as usize;
@@ -156,9 +156,9 @@ fn same(a: &[u8], b: &[u8]) -> bool
 }
 
 // Whether each byte of the mask is as the record says.
-fn all_marked(r: Record, mask: &[u8]) -> bool
+fn all_masked(r: Record, mask: &[u8]) -> bool
     requires { ⌜ (length (now mask) ≡ offsets) × (shaped offsets r ≡ true) × InEight r ⌝ }
-    ensures { λ t. ⌜ t ≡ everyFrom (marked (now (mask .entry)) r) offsets 0 ⌝ }
+    ensures { λ t. ⌜ t ≡ everyFrom (tested (now (mask .entry)) r) offsets 0 ⌝ }
 {
     let mut expected = [0u8; group::OFFSETS as usize];
     expect(r, mask, &mut expected);
@@ -166,9 +166,9 @@ fn all_marked(r: Record, mask: &[u8]) -> bool
 }
 
 // Whether the mask has an approximate record's first and last offset.
-fn ends_marked(r: Record, mask: &[u8]) -> bool
+fn ends_masked(r: Record, mask: &[u8]) -> bool
     requires { ⌜ (length (now mask) ≡ offsets) × (r .start + r .span ≤ 255) ⌝ }
-    ensures { λ t. ⌜ t ≡ endsMarked (approx r) (now (mask .entry)) r ⌝ }
+    ensures { λ t. ⌜ t ≡ endsMasked (approx r) (now (mask .entry)) r ⌝ }
 {
     if !r.is_approximate() {
         return true;
@@ -189,10 +189,10 @@ fn fits(r: Record, mask: &[u8]) -> bool
     if !group::shaped(r, group::OFFSETS) {
         return false;
     }
-    if !ends_marked(r, mask) {
+    if !ends_masked(r, mask) {
         return false;
     }
-    all_marked(r, mask)
+    all_masked(r, mask)
 }
 
 // Whether the bytes are a sound group that isn't full.

@@ -32,7 +32,7 @@ struct Place {
 }
 
 // The mask, empty before, gets the offsets of n pages of the batch, from place `at` on.
-fn mark(mask: &mut [u8], written: &[u32], at: usize, n: usize)
+fn fill_mask(mask: &mut [u8], written: &[u32], at: usize, n: usize)
     requires { ⌜ (length (now mask) ≡ 256) × ((o : ℕ) → o < 256 → masked (now mask) o ≡ false) × (at + n ≤ length (now written)) ⌝ }
     ensures { λ _. ⌜ ((o : ℕ) → o < 256 → masked (now (mask .exit)) o ≡ elem o (offsetsFrom (now (written .entry)) at n)) ⌝ }
 {
@@ -65,7 +65,7 @@ fn put_in(b: &mut [u8], written: &[u32], taken: &[u32], p: Place, r: Record)
     make_room(b, p.end - i);
     let n = taken[i] as usize;
     let mut mask = [0u8; 256];
-    mark(&mut mask, written, p.page, n);
+    fill_mask(&mut mask, written, p.page, n);
     insertion::insert(b, r, &mask);
 }
 

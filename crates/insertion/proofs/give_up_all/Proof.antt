@@ -4,14 +4,14 @@ use mathlib.Core.Path.{_∙_, sym}
 use mathlib.Core.List.{List}
 use Rattle.record.specs.Scan.{masked}
 use Rattle.group.specs.Cutting.{Placed}
-use Rattle.insertion.specs.InsertSlots.{Marked}
+use Rattle.insertion.specs.InsertSlots.{Noted}
 use Rattle.insertion.specs.Shown.{Shown}
 use Rattle.insertion.proofs.GivingUp.{GivingUp, giving-start, giving-inside, giving-turn, giving-end}
 use Rattle.insertion.proofs.give_up_all.Statement.{statement}
 use Rattle.insertion.proofs.give_up_all.Tie as tie
 
 abbrev Inv-loop : tie.InvT-loop
-Inv-loop b₀ taken losers k₀ i₀ b k i = Marked b taken losers × ((l : List Placed) → Shown b₀ l → GivingUp (masked taken) l b k i)
+Inv-loop b₀ taken losers k₀ i₀ b k i = Noted b taken losers × ((l : List Placed) → Shown b₀ l → GivingUp (masked taken) l b k i)
 
 abbrev μ-loop : tie.MeasureT-loop
 μ-loop b₀ taken losers k₀ i₀ b k i = k

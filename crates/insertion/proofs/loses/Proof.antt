@@ -1,4 +1,4 @@
--- `loses` meets its contract: by the record's kind, and the mark at its number.
+-- `loses` meets its contract: by the record's kind, and the note at its number.
 use mathlib.Core.Path.{sym, _∙_}
 use native.Mathlib.Numerals.{add-one}
 use borrow.Author.Tests.{not-true, not-false}

@@ -27,8 +27,8 @@ start c = c .before .before .before .before .before .before .before .before .bef
 inside : (c : tie.Start) → c .args .p .page + getD (c .args .taken .now) (c .args .p .run) 0 ≤ length (c .args .written .now)
 inside c = pages-inside _ _ _ (c .pre .page) _ _ (c .pre .counted) (c .pre .inside)
 
-mark-requires : tie.Need-mark-requires
-mark-requires c κs = (refl, λ o h. ap (λ (x : ℕ). not (eqb x 0)) (getD-replicate 256 o 0 0 h), inside (start (c .before)))
+fill-mask-requires : tie.Need-fill-mask-requires
+fill-mask-requires c κs = (refl, λ o h. ap (λ (x : ℕ). not (eqb x 0)) (getD-replicate 256 o 0 0 h), inside (start (c .before)))
 
 -- the group has room, and is sound
 abbrev room : (c : tie.After-mask3) → tie.After-make-room
@@ -40,23 +40,23 @@ at c = start (c .before .before .before .before .before)
 sound : (c : tie.After-mask3) → soundGroup (at c .pre .bytes .N) (at c .pre .bytes .number) (readGroup (room c .make-room .last .0)) ≡ true
 sound c = let b = at c .pre .bytes in ap (soundGroup (b .N) (b .number)) (room c .make-room .ensures) ∙ room-sound _ _ (b .N) (b .number) (b .sound)
 
-ready : (c : tie.After-mask3) → Ready (room c .make-room .last .0) (c .before .before .before .mark .last .0) (at c .args .r)
+ready : (c : tie.After-mask3) → Ready (room c .make-room .last .0) (c .before .before .before .fill-mask .last .0) (at c .args .r)
 unfolding owning
 ready c =
     let pre = at c .pre in
-    let marked = c .before .before .before .mark in
+    let filled = c .before .before .before .fill-mask in
     record {
       N = pre .bytes .N;
       number = pre .bytes .number;
       group = readGroup (room c .make-room .last .0);
       owned = ownedOf (kindOf (at c .args .r .word)) (offsetsAt (at c .args .written .now) (at c .args .taken .now) (at c .args .p .run));
       size = room c .make-room .kept .0 ∙ pre .bytes .size;
-      long = marked .kept .0;
+      long = filled .kept .0;
       held = sound-held (pre .bytes .N) (pre .bytes .number) _ (sound c);
       sound = sound c;
       few = omega (arith, ap (λ (g : Group). recordCount g) (room c .make-room .ensures), pre .inside, room-fits (at c .args .p .end - at c .args .p .run) (readGroup (at c .args .b .now)) (omega (arith, pre .few)));
       fits = pre .sound;
-      members = λ o h. marked .ensures o h ∙ ap (λ (x : ℕ). elem o (offsetsFrom (at c .args .written .now) x (getD (at c .args .taken .now) (at c .args .p .run) 0))) (pre .page) ∙ sym (pre .members o h);
+      members = λ o h. filled .ensures o h ∙ ap (λ (x : ℕ). elem o (offsetsFrom (at c .args .written .now) x (getD (at c .args .taken .now) (at c .args .p .run) 0))) (pre .page) ∙ sym (pre .members o h);
     }
 
 returns : tie.Need-returns
@@ -65,4 +65,4 @@ returns c = c .before .before .insert .ensures (ready (c .before .before .before
 
 pub put-in-spec : {M : Type 1} → statement M
 put-in-spec = tie.close (tie.spec (λ c. search needs) (λ c κs. search needs) (λ c. search needs) (λ c. search needs)
-    (λ c. omega (arith, inside (start c))) (λ c. search needs) mark-requires (λ c. search needs) (λ c κs. ready c) (λ c. search needs) returns)
+    (λ c. omega (arith, inside (start c))) (λ c. search needs) fill-mask-requires (λ c. search needs) (λ c κs. ready c) (λ c. search needs) returns)

@@ -8,7 +8,7 @@ use Rattle.record.proofs.Words.{even-of}
 use Rattle.record.proofs.Masks.{single-members, accurate-members}
 use Rattle.group.proofs.Shapes.{shaped-below}
 use Rattle.probe.specs.Groups.{recordBy}
-use Rattle.probe.proofs.Marks.{owned-tested, strided-tested}
+use Rattle.probe.proofs.Masks.{owned-tested, strided-tested}
 use Rattle.probe.proofs.groups.expect.Statement.{statement}
 use Rattle.probe.proofs.groups.expect.Tie as tie
 

@@ -2,9 +2,9 @@
 use mathlib.Core.Path.{_∙_}
 use borrow.Author.Needs.{needs}
 use Rattle.probe.proofs.Filling.{blank}
-use Rattle.probe.proofs.Marks.{every-alike}
-use Rattle.probe.proofs.groups.all_marked.Statement.{statement}
-use Rattle.probe.proofs.groups.all_marked.Tie as tie
+use Rattle.probe.proofs.Masks.{every-alike}
+use Rattle.probe.proofs.groups.all_masked.Statement.{statement}
+use Rattle.probe.proofs.groups.all_masked.Tie as tie
 
 expect-requires : tie.Need-expect-requires
 expect-requires c κs =
@@ -14,5 +14,5 @@ expect-requires c κs =
 returns : tie.Need-returns
 returns c = c .same .ensures ∙ every-alike _ _ (c .before .before .before .expect .ensures .1)
 
-pub all-marked-spec : {M : Type 1} → statement M
-all-marked-spec = tie.close (tie.spec (λ c. search needs) expect-requires (λ c. search needs) (λ c κs. search needs) returns)
+pub all-masked-spec : {M : Type 1} → statement M
+all-masked-spec = tie.close (tie.spec (λ c. search needs) expect-requires (λ c. search needs) (λ c κs. search needs) returns)

@@ -13,8 +13,8 @@ use Rattle.model.specs.Lists.{elem}
 use Rattle.model.specs.Demand2.{offsets}
 use Rattle.record.specs.Scan.{masked}
 use Rattle.writing.specs.Handed.{offsetsFrom}
-use Rattle.writing.proofs.mark.Statement.{statement}
-use Rattle.writing.proofs.mark.Tie as tie
+use Rattle.writing.proofs.fill_mask.Statement.{statement}
+use Rattle.writing.proofs.fill_mask.Tie as tie
 
 either : (t u : Bool) → (t || u) ≡ (u || t)
 either true true = refl
@@ -22,9 +22,9 @@ either true false = refl
 either false true = refl
 either false false = refl
 
-mark-one : (m : List ℕ) (x o : ℕ) (l : List ℕ) → x < length m → (masked (set m x 1) o || elem o l) ≡ (masked m o || elem o (x ∷ l))
+mask-one : (m : List ℕ) (x o : ℕ) (l : List ℕ) → x < length m → (masked (set m x 1) o || elem o l) ≡ (masked m o || elem o (x ∷ l))
 unfolding elem
-mark-one m x o l h = go (eqb o x) refl
+mask-one m x o l h = go (eqb o x) refl
   where
     go : (t : Bool) → eqb o x ≡ t → (masked (set m x 1) o || elem o l) ≡ (masked m o || elem o (x ∷ l))
     go true e = rw (e, elem, eqb-true o x e, getD-set-same m x 1 0 h) (either true (masked m x))
@@ -52,7 +52,7 @@ loop-again c =
     let n : args .at + args .n - i ≡ suc (args .at + args .n - suc i) = omega arith in (
       simp length-set (so .0),
       omega arith,
-      λ o h. rw (add-one i) (mark-one (c .before .before .loop .mask) (getD (args .written .now) i 0 % 256) o _ (omega (arith, so .0)) ∙ rw (n, drop-cons (args .written .now) i 0 (omega arith)) at (so .2 o h)),
+      λ o h. rw (add-one i) (mask-one (c .before .before .loop .mask) (getD (args .written .now) i 0 % 256) o _ (omega (arith, so .0)) ∙ rw (n, drop-cons (args .written .now) i 0 (omega arith)) at (so .2 o h)),
     )
 
 same-length : tie.Need-same-length Inv-loop μ-loop
@@ -64,6 +64,6 @@ returns c o h =
     let z : c .before .before .args .at + c .before .before .args .n - c .before .loop .i ≡ 0 = omega arith in
     either false (masked (c .before .loop .mask) o) ∙ rw z at (c .before .loop .inv .2 o h)
 
-pub mark-spec : {M : Type 1} → statement M
-mark-spec = tie.close (tie.spec Inv-loop μ-loop (λ c. omega arith) loop-holds (λ c. omega arith) (λ c. omega arith)
+pub fill-mask-spec : {M : Type 1} → statement M
+fill-mask-spec = tie.close (tie.spec Inv-loop μ-loop (λ c. omega arith) loop-holds (λ c. omega arith) (λ c. omega arith)
     (λ c. omega arith) slice-write-mask (λ c. omega arith) (λ c. omega arith) loop-again same-length returns)

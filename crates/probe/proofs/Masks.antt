@@ -22,7 +22,7 @@ use Rattle.group.specs.Checking.{approx, endOf, offsetsIn, shaped}
 use Rattle.group.proofs.Members.{every-of, of-every}
 use Rattle.group.proofs.Ends.{Ends, owned-by}
 use Rattle.group.proofs.Shapes.{owned-approx, sound-shaped, sound-ends, sound-of}
-use Rattle.probe.specs.Groups.{bit, ownerIf, ownersBy, recordBy, marks, fitting, markedAs, marked, maskedIn, Expected, endsMarked}
+use Rattle.probe.specs.Groups.{bit, ownerIf, ownersBy, recordBy, masks, fitting, testedAs, tested, maskedIn, Expected, endsMasked}
 
 -- the record owns, by the owners of the mask, what the mask has
 owner-masked : (t : Bool) (start : ℕ) → eqb (ownerIf t start) (suc start) ≡ t
@@ -41,11 +41,11 @@ module _ (m : List ℕ) (r : Record) where
   alone = record { level = 0; held = r }
 
   -- A mask that is compared with the one expected, offset by offset: it is tested as the record says.
-  compared : (n : ℕ) (x isMember isCovered : Bool) → x ≡ (isCovered && isMember) → (n ≡ 0 → isMember ≡ true → isCovered ≡ true) → eqb n (bit x) ≡ markedAs n isMember isCovered
-  unfolding markedAs bit
+  compared : (n : ℕ) (x isMember isCovered : Bool) → x ≡ (isCovered && isMember) → (n ≡ 0 → isMember ≡ true → isCovered ≡ true) → eqb n (bit x) ≡ testedAs n isMember isCovered
+  unfolding testedAs bit
   compared n x a c e within = ap (λ (t : Bool). eqb n (bit t)) e ∙ go n a c within
     where
-      go : (n : ℕ) (a c : Bool) → (n ≡ 0 → a ≡ true → c ≡ true) → eqb n (bit (c && a)) ≡ markedAs n a c
+      go : (n : ℕ) (a c : Bool) → (n ≡ 0 → a ≡ true → c ≡ true) → eqb n (bit (c && a)) ≡ testedAs n a c
       go zero true true f = ne-eqb 0 1 (λ z. omega arith)
       go zero true false f = absurd (true≢false (sym (f refl refl)))
       go zero false true f = eq-eqb 0 0 refl
@@ -59,7 +59,7 @@ module _ (m : List ℕ) (r : Record) where
 
   module _ (l : List ℕ) where
     -- of an approximate record, whose members the mask has
-    pub owned-tested : approx r ≡ true → Expected (maskedIn m (r .start) (endOf r)) l → (o : ℕ) → o < 256 → eqb (getD m o 0) (getD l o 0) ≡ marked m r o
+    pub owned-tested : approx r ≡ true → Expected (maskedIn m (r .start) (endOf r)) l → (o : ℕ) → o < 256 → eqb (getD m o 0) (getD l o 0) ≡ tested m r o
     unfolding covers
     owned-tested a expected o h =
         ap (eqb (getD m o 0)) (expected .1 o h)
@@ -70,7 +70,7 @@ module _ (m : List ℕ) (r : Record) where
 
     -- of any other, whose members are those of a stride
     pub strided-tested : (d e : ℕ) → e ≤ endOf r → ((o : ℕ) → o < 256 → onStride (r .start) d e o ≡ member (recordBy m r) o) → Expected (onStride (r .start) d e) l
-        → (o : ℕ) → o < 256 → eqb (getD m o 0) (getD l o 0) ≡ marked m r o
+        → (o : ℕ) → o < 256 → eqb (getD m o 0) (getD l o 0) ≡ tested m r o
     unfolding covers
     strided-tested d e low same expected o h =
         ap (eqb (getD m o 0)) (expected .1 o h)
@@ -90,24 +90,24 @@ module _ (m : List ℕ) (r : Record) where
             none false = refl
 
   -- The test of the ends, a law for each way to answer.
-  pub ends-other : approx r ≡ false → true ≡ endsMarked (approx r) m r
-  unfolding endsMarked
+  pub ends-other : approx r ≡ false → true ≡ endsMasked (approx r) m r
+  unfolding endsMasked
   ends-other e = rw e
 
-  pub ends-first : approx r ≡ true → getD m (r .start) 0 ≡ 0 → false ≡ endsMarked (approx r) m r
-  unfolding endsMarked
+  pub ends-first : approx r ≡ true → getD m (r .start) 0 ≡ 0 → false ≡ endsMasked (approx r) m r
+  unfolding endsMasked
   ends-first e z = rw (e, eq-eqb (getD m (r .start) 0) 0 z)
 
-  pub ends-last : approx r ≡ true → (getD m (r .start) 0 ≡ 0 → ⊥) → masked m (r .start + r .span) ≡ endsMarked (approx r) m r
-  unfolding endsMarked
+  pub ends-last : approx r ≡ true → (getD m (r .start) 0 ≡ 0 → ⊥) → masked m (r .start + r .span) ≡ endsMasked (approx r) m r
+  unfolding endsMasked
   ends-last e z = rw (e, ne-eqb (getD m (r .start) 0) 0 z)
 
   -- by one offset's test, and by the mask there
-  marked-marks : (o : ℕ) → marked m r o ≡ true → marks m r o ≡ true
-  unfolding markedAs marks bit
-  marked-marks o = go (getD m o 0) (member (recordBy m r) o) (covers (recordBy m r) o)
+  tested-masks : (o : ℕ) → tested m r o ≡ true → masks m r o ≡ true
+  unfolding testedAs masks bit
+  tested-masks o = go (getD m o 0) (member (recordBy m r) o) (covers (recordBy m r) o)
     where
-      go : (n : ℕ) (a c : Bool) → markedAs n a c ≡ true → eqb n (bit a) ≡ true
+      go : (n : ℕ) (a c : Bool) → testedAs n a c ≡ true → eqb n (bit a) ≡ true
       go zero true c e = absurd (true≢false (sym e))
       go zero false c e = eq-eqb 0 0 refl
       go (suc zero) true c e = eq-eqb 1 1 refl
@@ -115,21 +115,21 @@ module _ (m : List ℕ) (r : Record) where
       go (suc zero) false false e = absurd (true≢false (sym e))
       go (suc (suc n)) a c e = absurd (true≢false (sym e))
 
-  marked-covers : (o : ℕ) → marked m r o ≡ true → masked m o ≡ true → covers (recordBy m r) o ≡ true
-  unfolding markedAs
-  marked-covers o = go (getD m o 0) (member (recordBy m r) o) (covers (recordBy m r) o)
+  tested-covers : (o : ℕ) → tested m r o ≡ true → masked m o ≡ true → covers (recordBy m r) o ≡ true
+  unfolding testedAs
+  tested-covers o = go (getD m o 0) (member (recordBy m r) o) (covers (recordBy m r) o)
     where
-      go : (n : ℕ) (a c : Bool) → markedAs n a c ≡ true → not (eqb n 0) ≡ true → c ≡ true
+      go : (n : ℕ) (a c : Bool) → testedAs n a c ≡ true → not (eqb n 0) ≡ true → c ≡ true
       go zero a c e k = absurd (true≢false (sym (ap not (sym (eq-eqb 0 0 refl)) ∙ k)))
       go (suc zero) a true e k = refl
       go (suc zero) a false e k = absurd (true≢false (sym e))
       go (suc (suc n)) a c e k = absurd (true≢false (sym e))
 
-  marks-marked : (o : ℕ) → marks m r o ≡ true → (member (recordBy m r) o ≡ true → covers (recordBy m r) o ≡ true) → marked m r o ≡ true
-  unfolding markedAs marks bit
-  marks-marked o h f = go (getD m o 0) (member (recordBy m r) o) (eqb-true _ _ h) f
+  masks-tested : (o : ℕ) → masks m r o ≡ true → (member (recordBy m r) o ≡ true → covers (recordBy m r) o ≡ true) → tested m r o ≡ true
+  unfolding testedAs masks bit
+  masks-tested o h f = go (getD m o 0) (member (recordBy m r) o) (eqb-true _ _ h) f
     where
-      go : (n : ℕ) (a : Bool) → n ≡ bit a → (a ≡ true → covers (recordBy m r) o ≡ true) → markedAs n a (covers (recordBy m r) o) ≡ true
+      go : (n : ℕ) (a : Bool) → n ≡ bit a → (a ≡ true → covers (recordBy m r) o ≡ true) → testedAs n a (covers (recordBy m r) o) ≡ true
       go n true e g = rw (e, g refl)
       go n false e g = rw e
 
@@ -148,29 +148,29 @@ module _ (m : List ℕ) (r : Record) where
     unfolding offsetsIn
     fits-shaped = sound-shaped (ownersBy m r) alone 256 0 sound-by
 
-    fits-ends : endsMarked (approx r) m r ≡ true
-    unfolding endsMarked
+    fits-ends : endsMasked (approx r) m r ≡ true
+    unfolding endsMasked
     fits-ends = go (approx r) refl
       where
-        go : (t : Bool) → approx r ≡ t → endsMarked t m r ≡ true
+        go : (t : Bool) → approx r ≡ t → endsMasked t m r ≡ true
         go true e =
             let ends = sound-ends (ownersBy m r) alone 256 0 sound-by e in
             and-i _ _ (owned-masked (masked m (r .start)) (ends .first-own)) (owned-masked (masked m (endOf r)) (ends .last-own))
         go false e = refl
 
-    fits-marked : everyFrom (marked m r) 256 0 ≡ true
+    fits-tested : everyFrom (tested m r) 256 0 ≡ true
     unfolding fitting covers
-    fits-marked =
-        of-every (marked m r) 256 0
+    fits-tested =
+        of-every (tested m r) 256 0
         (λ o a b.
-        marks-marked o (every-of (marks m r) 256 0 (and-r (soundRecord 256 0 (recordBy m r)) _ h) o a b)
+        masks-tested o (every-of (masks m r) 256 0 (and-r (soundRecord 256 0 (recordBy m r)) _ h) o a b)
         (λ q. let w = sound-within 256 0 (recordBy m r) sound-by o q in and-i _ _ (le-leb _ _ (w .0)) (le-leb _ _ (w .1))))
 
   -- A record and a mask that pass the tests fit.
-  module _ (shape : shaped 256 r ≡ true) (ends : endsMarked (approx r) m r ≡ true) where
-    tested : everyFrom (marked m r) 256 0 ≡ true → fitting m r ≡ true
-    unfolding fitting endsMarked covers ownerIf offsetsIn
-    tested h = and-i _ _ (sound-of (ownersBy m r) alone 256 0 shape owns) (of-every (marks m r) 256 0 (λ o a b. marked-marks o (every-of (marked m r) 256 0 h o a b)))
+  module _ (shape : shaped 256 r ≡ true) (ends : endsMasked (approx r) m r ≡ true) where
+    tests-fit : everyFrom (tested m r) 256 0 ≡ true → fitting m r ≡ true
+    unfolding fitting endsMasked covers ownerIf offsetsIn
+    tests-fit h = and-i _ _ (sound-of (ownersBy m r) alone 256 0 shape owns) (of-every (masks m r) 256 0 (λ o a b. tested-masks o (every-of (tested m r) 256 0 h o a b)))
       where
         both : approx r ≡ true → (masked m (r .start) && masked m (endOf r)) ≡ true
         both e = rw e at ends
@@ -180,16 +180,16 @@ module _ (m : List ℕ) (r : Record) where
           first-own = ap (λ (t : Bool). ownerIf t (r .start)) (and-l (masked m (r .start)) _ (both e));
           last-own = ap (λ (t : Bool). ownerIf t (r .start)) (and-r (masked m (r .start)) _ (both e));
           within = λ o b q.
-              let c = marked-covers o (every-of (marked m r) 256 0 h o (omega arith) (omega arith)) (owned-masked (masked m o) q) in
+              let c = tested-covers o (every-of (tested m r) 256 0 h o (omega arith) (omega arith)) (owned-masked (masked m o) q) in
               (leb-true _ _ (and-l (leb (r .start) o) _ c), leb-true _ _ (and-r (leb (r .start) o) _ c));
         }
 
-    pub all-tests : (t : Bool) → t ≡ everyFrom (marked m r) 256 0 → t ≡ fitting m r
-    all-tests t e = e ∙ iff-bool _ _ tested fits-marked
+    pub all-tests : (t : Bool) → t ≡ everyFrom (tested m r) 256 0 → t ≡ fitting m r
+    all-tests t e = e ∙ iff-bool _ _ tests-fit fits-tested
 
   -- One that fails a test doesn't.
   pub not-shaped : shaped 256 r ≡ false → false ≡ fitting m r
   not-shaped e = sym (is-false _ (λ h. true≢false (sym (fits-shaped h) ∙ e)))
 
-  pub not-ends : endsMarked (approx r) m r ≡ false → false ≡ fitting m r
+  pub not-ends : endsMasked (approx r) m r ≡ false → false ≡ fitting m r
   not-ends e = sym (is-false _ (λ h. true≢false (sym (fits-ends h) ∙ e)))
