@@ -9,11 +9,11 @@ use native.Mathlib.Omega.{arith}
 use Rattle.model.specs.State.{State}
 use Rattle.model.proofs.Bools.{and-i}
 use Rattle.calls.specs.Refusals.{notNamed, Check, _when_, firstRefusal}
-use Rattle.calls.specs.Lookup.{seek}
+use Rattle.calls.specs.Lookup.{Looked, seek}
 use Rattle.calls.specs.Agreement.{eachBelow, isNamed, allNamed, soundChecks, agreeChecks}
 use Rattle.calls.proofs.Refusing.{Clear, is-clear}
 use Rattle.calls.proofs.Invariant.{Inv}
-use Rattle.calls.proofs.Found.{seek-found, seek-nowhere}
+use Rattle.calls.proofs.Found.{seek-found, Missed, marked, unmarked, seek-nowhere}
 use Rattle.calls.proofs.Passing.{numbers-there, state-right, spare-right}
 
 -- a test that each number below n passes
@@ -26,8 +26,12 @@ all-named : (s : State) (spare : List ℕ) (place : ℕ → Option ℕ) → Inv 
 unfolding allNamed isNamed
 all-named s spare place v = each-below (s .device .N) _ (λ x b. go x b (place x) refl)
   where
+    missed : (x : ℕ) (o : Looked) → Missed s spare place v x o → isNamed o ≡ true
+    missed x o (marked e) = refl
+    missed x o (unmarked n e) = refl
+
     go : (x : ℕ) → x < s .device .N → (o : Option ℕ) → place x ≡ o → isNamed (seek s spare x) ≡ true
-    go x b none e = ap isNamed (seek-nowhere s spare place v x b e)
+    go x b none e = missed x (seek s spare x) (seek-nowhere s spare place v x b e)
     go x b (some p) e = ap isNamed (seek-found s spare place v x p (v .placed x p b e) .sought)
 
 -- the checks of one of the two states

@@ -17,6 +17,7 @@ use Rattle.model.specs.Record.{Record, predict}
 use Rattle.model.specs.Spare.{middle, names, lowestNaming, pageNamed}
 use Rattle.model.specs.Learning.{Write, sorted}
 use Rattle.model.specs.Levels.{Group, listing, recordCount, holder, levelsTo}
+use Rattle.model.specs.Marks.{isMarked}
 use Rattle.model.specs.State.{State, groupAt, freeBlocks, usedBlocks, lowestFree, lowestIn}
 use Rattle.model.proofs.Bools.{and-l, and-r, or-none, all-head, all-tail}
 use Rattle.model.proofs.Limits.{Limits, limits, page-inside}
@@ -30,17 +31,19 @@ use Rattle.calls.specs.Refusals.{Refusal, firstRefusal, numbersMissing}
 use Rattle.calls.specs.Outcome.{Lent, outcome, unless}
 use Rattle.calls.specs.Format.{formatDone}
 use Rattle.calls.specs.Flush.{flushChecks, flushDone}
-use Rattle.calls.specs.Lookup.{lookedNamed, lookedAt, lookedBy, seek, answerOf, lookupChecks, lookupDone}
+use Rattle.calls.specs.Lookup.{lookedNamed, lookedAt, lookedBy, descend, seek, answerOf, lookupChecks, lookupDone}
+use Rattle.calls.specs.Discard.{discardDone}
 use Rattle.calls.specs.Choice.{Used, usedBy, ranked, takeWhile, victimsBy, blocksOf, pagesOf, copyBy, movesBy, firstOf}
 use Rattle.calls.specs.Collection.{valid, victims, moves, collectChecks, firstMoved, collectDone}
 use Rattle.calls.specs.Compaction.{compactDone}
 use Rattle.calls.specs.Agreement.{agreeDone}
 use Rattle.calls.specs.Listing.{listChecks, listDone}
-use Rattle.calls.specs.History.{Call, formatCall, flushCall, lookupCall, collectCall, compactCall, agreeCall, listCall, lend, lentTo, checksOf, effect, run}
+use Rattle.calls.specs.History.{Call, formatCall, flushCall, lookupCall, discardCall, collectCall, compactCall, agreeCall, listCall, lend, lentTo, checksOf, effect, run}
 use Rattle.calls.specs.Bounds.{pageLimit, Bounded}
 use Rattle.calls.proofs.Ranking.{ranked-length}
 use Rattle.calls.proofs.Choosing.{pages-fit}
 use Rattle.calls.proofs.Refusing.{none-some, clears}
+use Rattle.calls.proofs.Marked.{seek-marked, seek-unmarked}
 
 -- the page that an entry names is one of the device's
 names-inside : (d : Device) (spare : List ℕ) (p x j : ℕ) → names d spare p x j ≡ true → p + j - d .g < pages d
@@ -106,14 +109,18 @@ levels-few ((r ∷ l) ∷ g) h = omega (arith, levels-few g (all-tail isFilled (
 
 -- A lookup's levels are at most 512, its pages below 2^20.
 lookup-fits : (page : ℕ) (x : Lent) → firstRefusal (lookupChecks page x) ≡ none → Bounded (lookupDone page x .answer)
-unfolding lookupChecks lookupDone seek recordCount
+unfolding lookupChecks lookupDone descend recordCount answerOf Bounded
 lookup-fits page x e =
     let c = clears _ e in
     let s : State = x .state in
     let g : Group = groupAt s (groupOf page) in
     let p = group-parts (s .device .N) (groupOf page) g (not-false _ (c .1 .1 .1 .1 .0)) in
     let m : levelsTo (offsetOf page) g ≤ 512 = omega (arith, levelsTo-most (offsetOf page) g, levels-few g (p .filled), p .limit) in
-    looked-fits (s .device) (numbered s (c .0)) (x .spare) page (levelsTo (offsetOf page) g) (holder (offsetOf page) (listing g)) m
+    go (isMarked (s .marks) page) refl (looked-fits (s .device) (numbered s (c .0)) (x .spare) page (levelsTo (offsetOf page) g) (holder (offsetOf page) (listing g)) m)
+  where
+    go : (t : Bool) → isMarked (x .state .marks) page ≡ t → Bounded (answerOf (descend (x .state) (x .spare) page)) → Bounded (answerOf (seek (x .state) (x .spare) page))
+    go true q b = rw (seek-marked (x .state) (x .spare) page q) (omega arith)
+    go false q b = rw (seek-unmarked (x .state) (x .spare) page q) b
 
 -- A listing's records are at most 512.
 list-fits : (k : ℕ) (x : Lent) → firstRefusal (listChecks k x) ≡ none → Bounded (listDone k x .answer)
@@ -176,10 +183,11 @@ collect-fits x counted e =
     (first-moved s counted l (moves s (x .spare)), moves-most s counted l (x .spare), victims-most s counted l (x .spare))
 
 effect-fits : (c : Call) (s : State) (spare : List ℕ) → length (s .counts) ≡ s .device .M → firstRefusal (checksOf c (lentTo c s spare)) ≡ none → Bounded (effect c (lentTo c s spare) .answer)
-unfolding checksOf lentTo lend effect formatDone compactDone agreeDone Bounded
+unfolding checksOf lentTo lend effect formatDone discardDone compactDone agreeDone Bounded
 effect-fits (formatCall d) s spare n e = tt
 effect-fits (flushCall batch plan) s spare n e = flush-fits batch _ n e
 effect-fits (lookupCall x) s spare n e = lookup-fits x _ e
+effect-fits (discardCall x) s spare n e = tt
 effect-fits (collectCall plan erased) s spare n e = collect-fits _ n e
 effect-fits (compactCall k) s spare n e = omega (arith, compact-count (groupAt s k))
 effect-fits (agreeCall a sa b sb) s spare n e = tt

@@ -1,14 +1,14 @@
--- The book beside the page map: a logical page lies where the page carries its last write, and each write is carried once. A flush
--- keeps this: its pages carry this call's arrivals, by the plan. Assumes nothing.
+-- The book beside the page map: a logical page lies where the page carries its last write, one that is discarded has a discard as its
+-- last event, and each write is carried once. A flush keeps this: its pages carry this call's arrivals, by the plan. Assumes nothing.
 use mathlib.Core.Path.{_≡_, refl, sym, _∙_, ap, subst}
 use mathlib.Core.List.{List, [], _∷_}
 use mathlib.Core.Option.{Option, none, some}
-use mathlib.Core.Bool.{Bool, true, false}
+use mathlib.Core.Bool.{Bool, true, false, not, _&&_, and-true}
 use Prim.Native.Nat.{ℕ, suc, _+_, _-_, _/_, _≤_, _<_}
 use native.Mathlib.Omega.{arith}
 use lib.Dec.{leb, eqb}
 use lib.ListN.{length, getD}
-use borrow.Author.Tests.{ltb-true, leb-true, lt-ltb, le-leb, eqb-true}
+use borrow.Author.Tests.{ltb-true, leb-true, lt-ltb, le-leb, eqb-true, not-true}
 use Rattle.model.specs.Lists.{elem, store}
 use Rattle.model.specs.Device.{Device, firstPage}
 use Rattle.model.specs.Learning.{Write, sorted, later, latest, logicals, sources}
@@ -18,9 +18,9 @@ use Rattle.model.proofs.Lists.{getD-store}
 use Rattle.model.proofs.Counting.{asc-distinct, distinct-index}
 use Rattle.model.proofs.Blocks.{lowest-free}
 use Rattle.model.proofs.Limits.{page-block}
-use Rattle.model.proofs.Sorting.{no-source, sorted-source, source-at, logicals-length, sources-length}
-use Rattle.calls.specs.Book.{Arrival, writeOf, Book, lastWrite, noEntry, flushEntry, among, carriedFlush, lastOr, lastFlush, enter}
-use Rattle.calls.specs.PageMap.{PageMap, spot, writeCounts, mapWrite}
+use Rattle.model.proofs.Sorting.{sorted-elem, no-source, sorted-source, source-at, logicals-length, sources-length}
+use Rattle.calls.specs.Book.{Arrival, Event, nothing, write, discard, writeOf, Book, lastWrite, noEntry, flushEntry, among, carriedFlush, lastOr, lastFlush, enter}
+use Rattle.calls.specs.PageMap.{PageMap, spot, writeCounts, mapWrite, mapClear}
 use Rattle.calls.proofs.Moves.{Writable}
 use Rattle.calls.proofs.Placing.{Spot, elsewhere, there, spot-view, first-of}
 use Rattle.calls.proofs.MapInvariant.{MapInv}
@@ -29,15 +29,21 @@ use Rattle.calls.proofs.MapWriting.{off-free}
 -- The book agrees with a page map.
 pub record Kept (b : Book) (m : PageMap) : Type 0 where
   pub device : b .device ≡ m .device
-  pub missing : (x : ℕ) → x < m .device .N → m .place x ≡ none → lastWrite b x ≡ none
+  pub missing : (x : ℕ) → x < m .device .N → m .place x ≡ none → m .discarded x ≡ false → b .last x ≡ nothing
+  pub gone : (x : ℕ) → x < m .device .N → m .discarded x ≡ true → b .last x ≡ discard
   pub present : (x p : ℕ) → x < m .device .N → m .place x ≡ some p → (a : Arrival) × (lastWrite b x ≡ some a) × (b .carried p ≡ some a)
   pub once : (p q : ℕ) (a : Arrival) → b .carried p ≡ some a → b .carried q ≡ some a → p ≡ q
   pub past : (p : ℕ) (a : Arrival) → b .carried p ≡ some a → a .call < b .calls
 
+-- a write is one
+write-of : (a : Arrival) → writeOf (write a) ≡ some a
+unfolding writeOf
+write-of a = refl
+
 -- A book that is fed nothing agrees as before.
 pub idle-kept : (b : Book) (m : PageMap) → Kept b m → Kept (enter noEntry b) m
 unfolding enter
-idle-kept b m k = record { device = k .device; missing = k .missing; present = k .present; once = k .once; past = λ p a e. omega (arith, k .past p a e) }
+idle-kept b m k = record { device = k .device; missing = k .missing; gone = k .gone; present = k .present; once = k .once; past = λ p a e. omega (arith, k .past p a e) }
 
 -- Among n pages of block k, from its first on, a page is in that block.
 pub among-block : (d : Device) (k n q : ℕ) → n ≤ d .B → among (firstPage d k) n q ≡ true → (q / d .B ≡ k) × (firstPage d k ≤ q) × (q < firstPage d k + n)
@@ -98,12 +104,16 @@ module _ (m : PageMap) (v : MapInv m) (b : Book) (c : Kept b m) (batch plan : Li
   abbrev carried′ : ℕ → Option Arrival
   carried′ = carriedFlush (b .calls) first (length ws) plan′ (b .carried)
 
-  abbrev last′ : ℕ → Option Arrival
-  last′ x = writeOf (lastFlush (b .calls) batch (b .last) x)
+  abbrev last′ : ℕ → Event
+  last′ = lastFlush (b .calls) batch (b .last)
+
+  -- and which of them are discarded
+  abbrev discarded′ : ℕ → Bool
+  discarded′ x = m .discarded x && not (elem x batch)
 
   -- the write that page i of the block carries
-  abbrev mark : ℕ → Arrival
-  mark i = record { call = b .calls; index = getD plan′ i 0 }
+  abbrev arrived : ℕ → Arrival
+  arrived i = record { call = b .calls; index = getD plan′ i 0 }
 
   -- page i of the block gets the index of the latest arrival of its logical page
   planned : (i : ℕ) → i < length ws → latest (getD w i 0) 0 batch ≡ some (getD plan′ i 0)
@@ -114,7 +124,7 @@ module _ (m : PageMap) (v : MapInv m) (b : Book) (c : Kept b m) (batch plan : Li
   unfolding carriedFlush
   kept-page q e = rw (e, carriedFlush) refl
 
-  new-page : (q : ℕ) → among first (length ws) q ≡ true → carried′ q ≡ some (mark (q - first))
+  new-page : (q : ℕ) → among first (length ws) q ≡ true → carried′ q ≡ some (arrived (q - first))
   unfolding carriedFlush
   new-page q e = rw (e, carriedFlush) refl
 
@@ -128,13 +138,20 @@ module _ (m : PageMap) (v : MapInv m) (b : Book) (c : Kept b m) (batch plan : Li
   outside : (x p : ℕ) → x < m .device .N → m .place x ≡ some p → among first (length ws) p ≡ false
   outside x p h e = is-false _ (λ t. off-free m v k (lowest-free (m .counts) f .1) x p h e (among-block (m .device) k (length ws) p (r .fits) t .0))
 
-  unwritten : (x : ℕ) → elem x w ≡ false → last′ x ≡ lastWrite b x
+  unwritten : (x : ℕ) → elem x w ≡ false → last′ x ≡ b .last x
   unfolding lastFlush lastOr
-  unwritten x n = ap (λ (o : Option ℕ). writeOf (lastOr (b .calls) o (b .last x))) (sym (sorted-source x batch) ∙ no-source x ws n)
+  unwritten x n = ap (λ (o : Option ℕ). lastOr (b .calls) o (b .last x)) (sym (sorted-source x batch) ∙ no-source x ws n)
 
-  written-last : (x i : ℕ) → i < length ws → getD w i 0 ≡ x → last′ x ≡ some (mark i)
-  unfolding lastFlush lastOr writeOf
-  written-last x i j n = ap (λ (o : Option ℕ). writeOf (lastOr (b .calls) o (b .last x))) (ap (λ (y : ℕ). latest y 0 batch) (sym n) ∙ planned i j)
+  unwritten-marked : (x : ℕ) → elem x w ≡ false → discarded′ x ≡ m .discarded x
+  unwritten-marked x n = ap (λ (t : Bool). m .discarded x && not t) (sym (sorted-elem x batch) ∙ n) ∙ and-true (m .discarded x)
+
+  -- one that is still discarded is not written
+  discarded-unwritten : (x : ℕ) → discarded′ x ≡ true → elem x w ≡ false
+  discarded-unwritten x e = sorted-elem x batch ∙ not-true (elem x batch) (and-r (m .discarded x) _ e)
+
+  written-last : (x i : ℕ) → i < length ws → getD w i 0 ≡ x → last′ x ≡ write (arrived i)
+  unfolding lastFlush lastOr
+  written-last x i j n = ap (λ (o : Option ℕ). lastOr (b .calls) o (b .last x)) (ap (λ (y : ℕ). latest y 0 batch) (sym n) ∙ planned i j)
 
   abbrev place′ : ℕ → Option ℕ
   place′ x = spot x first w (m .place x)
@@ -142,39 +159,43 @@ module _ (m : PageMap) (v : MapInv m) (b : Book) (c : Kept b m) (batch plan : Li
   abbrev book′ : Book
   book′ = enter (flushEntry batch first (length ws) plan′) b
 
-  on-block : Kept book′ (record { device = m .device; counts = writeCounts ws (m .counts); place = place′ })
+  on-block : Kept book′ (record { device = m .device; counts = writeCounts ws (m .counts); place = place′; discarded = discarded′ })
   unfolding enter
   on-block = record {
     device = c .device;
     missing = λ x h e. missing x h (place′ x) (spot-view x first w (m .place x)) e;
+    gone = λ x h e. let n = discarded-unwritten x e in unwritten x n ∙ c .gone x h (sym (unwritten-marked x n) ∙ e);
     present = λ x p h e. present x p h (place′ x) (spot-view x first w (m .place x)) e;
     once = λ p q a e g. once p q a (among first (length ws) p) (among first (length ws) q) refl refl e g;
     past = λ p a e. past p a (among first (length ws) p) refl e;
   }
     where
-      missing : (x : ℕ) → x < m .device .N → (o : Option ℕ) → Spot x first w (m .place x) o → o ≡ none → last′ x ≡ none
-      missing x h o (elsewhere n) e = unwritten x n ∙ c .missing x h e
-      missing x h o (there i l n) e = let z : _≡_ {A = ℕ} 0 1 = cc in absurd (omega arith)
+      last-write : (x i : ℕ) → i < length ws → getD w i 0 ≡ x → writeOf (last′ x) ≡ some (arrived i)
+      last-write x i j n = ap writeOf (written-last x i j n) ∙ write-of (arrived i)
 
-      present : (x p : ℕ) → x < m .device .N → (o : Option ℕ) → Spot x first w (m .place x) o → o ≡ some p → (a : Arrival) × (last′ x ≡ some a) × (carried′ p ≡ some a)
-      present x p h o (elsewhere n) e = let a = c .present x p h e in (a .0, unwritten x n ∙ a .1, kept-page p (outside x p h e) ∙ a .2)
+      missing : (x : ℕ) → x < m .device .N → (o : Option ℕ) → Spot x first w (m .place x) o → o ≡ none → discarded′ x ≡ false → last′ x ≡ nothing
+      missing x h o (elsewhere n) e q = unwritten x n ∙ c .missing x h e (sym (unwritten-marked x n) ∙ q)
+      missing x h o (there i l n) e q = let z : _≡_ {A = ℕ} 0 1 = cc in absurd (omega arith)
+
+      present : (x p : ℕ) → x < m .device .N → (o : Option ℕ) → Spot x first w (m .place x) o → o ≡ some p → (a : Arrival) × (writeOf (last′ x) ≡ some a) × (carried′ p ≡ some a)
+      present x p h o (elsewhere n) e = let a = c .present x p h e in (a .0, ap writeOf (unwritten x n) ∙ a .1, kept-page p (outside x p h e) ∙ a .2)
       present x p h o (there i l n) e =
           let g : first + i ≡ p = cc in
           let j : i < length ws = omega (arith, l, logicals-length ws) in
           let z : first + i - first ≡ i = omega arith in
-          (mark i, written-last x i j n, ap carried′ (sym g) ∙ new-page (first + i) (among-here first (length ws) i j) ∙ ap (λ (y : ℕ). some (mark y)) z)
+          (arrived i, last-write x i j n, ap carried′ (sym g) ∙ new-page (first + i) (among-here first (length ws) i j) ∙ ap (λ (y : ℕ). some (arrived y)) z)
 
       once : (p q : ℕ) (a : Arrival) (t u : Bool) → among first (length ws) p ≡ t → among first (length ws) q ≡ u → carried′ p ≡ some a → carried′ q ≡ some a → p ≡ q
       once p q a false false t u e g = c .once p q a (sym (kept-page p t) ∙ e) (sym (kept-page q u) ∙ g)
       once p q a true false t u e g =
-          let n : b .calls ≡ a .call = (let s : some (mark (p - first)) ≡ some a = sym (new-page p t) ∙ e in cc) in
+          let n : b .calls ≡ a .call = (let s : some (arrived (p - first)) ≡ some a = sym (new-page p t) ∙ e in cc) in
           absurd (omega (arith, c .past q a (sym (kept-page q u) ∙ g)))
       once p q a false true t u e g =
-          let n : b .calls ≡ a .call = (let s : some (mark (q - first)) ≡ some a = sym (new-page q u) ∙ g in cc) in
+          let n : b .calls ≡ a .call = (let s : some (arrived (q - first)) ≡ some a = sym (new-page q u) ∙ g in cc) in
           absurd (omega (arith, c .past p a (sym (kept-page p t) ∙ e)))
       once p q a true true t u e g =
-          let s : some (mark (p - first)) ≡ some (mark (q - first)) = sym (new-page p t) ∙ e ∙ sym g ∙ new-page q u in
-          let n : mark (p - first) ≡ mark (q - first) = cc in
+          let s : some (arrived (p - first)) ≡ some (arrived (q - first)) = sym (new-page p t) ∙ e ∙ sym g ∙ new-page q u in
+          let n : arrived (p - first) ≡ arrived (q - first) = cc in
           let i = place-of p t in
           let j = place-of q u in
           let x : getD w (p - first) 0 ≡ getD w (q - first) 0 = sym (latest-at _ 0 batch _ (i .2) .1) ∙ ap (λ (y : Arrival). getD batch (y .index - 0) 0) n ∙ latest-at _ 0 batch _ (j .2) .1 in
@@ -184,10 +205,10 @@ module _ (m : PageMap) (v : MapInv m) (b : Book) (c : Kept b m) (batch plan : Li
       past : (p : ℕ) (a : Arrival) (t : Bool) → among first (length ws) p ≡ t → carried′ p ≡ some a → a .call < suc (b .calls)
       past p a false t e = omega (arith, c .past p a (sym (kept-page p t) ∙ e))
       past p a true t e =
-          let n : b .calls ≡ a .call = (let s : some (mark (p - first)) ≡ some a = sym (new-page p t) ∙ e in cc) in
+          let n : b .calls ≡ a .call = (let s : some (arrived (p - first)) ≡ some a = sym (new-page p t) ∙ e in cc) in
           omega arith
 
   -- The book agrees with the page map after a flush.
-  pub flush-kept : Kept book′ (mapWrite ws m)
-  unfolding mapWrite
-  flush-kept = subst (λ (p : ℕ). Kept book′ (record { device = m .device; counts = writeCounts ws (m .counts); place = λ x. spot x p w (m .place x) })) (sym (first-of ws (m .device) (m .counts) filled)) on-block
+  pub flush-kept : Kept book′ (mapWrite ws (mapClear batch m))
+  unfolding mapWrite mapClear
+  flush-kept = subst (λ (p : ℕ). Kept book′ (record { device = m .device; counts = writeCounts ws (m .counts); place = λ x. spot x p w (m .place x); discarded = discarded′ })) (sym (first-of ws (m .device) (m .counts) filled)) on-block

@@ -18,7 +18,7 @@ use Rattle.model.proofs.Blocks.{lowest-free}
 use Rattle.model.proofs.Limits.{limits}
 use Rattle.model.proofs.Sorting.{logicals-length}
 use Rattle.calls.specs.Choice.{blocksOf, firstOf}
-use Rattle.calls.specs.Book.{Arrival, Book, lastWrite, collectEntry, among, carriedCopy, carriedErased, enter}
+use Rattle.calls.specs.Book.{Arrival, nothing, Book, lastWrite, collectEntry, among, carriedCopy, carriedErased, enter}
 use Rattle.calls.specs.PageMap.{PageMap, mapVictims, mapMoves, mapWrite, mapErase}
 use Rattle.calls.proofs.Moves.{move-lies, not-moved, sources-distinct}
 use Rattle.calls.proofs.Placing.{Spot, elsewhere, there, spot-view}
@@ -141,14 +141,15 @@ module _ (m : PageMap) (v : MapInv m) (b : Book) (c : Kept b m) (plan : List ℕ
   collect-kept = record {
     device = c .device;
     missing = λ x h e. missing x h _ (spot-view x first (logicals ws) (m .place x)) e;
+    gone = c .gone;
     present = λ x p h e. present x p h _ (spot-view x first (logicals ws) (m .place x)) e;
     once = λ p q a e g. same-origin p q a (origin p a e) (origin q a g);
     past = λ p a e. origin-past p a (origin p a e);
   }
     where
-      missing : (x : ℕ) → x < d .N → (o : Option ℕ) → Spot x first (logicals ws) (m .place x) o → o ≡ none → lastWrite b x ≡ none
-      missing x h o (elsewhere n) e = c .missing x h e
-      missing x h o (there i g n) e = let z : _≡_ {A = ℕ} 0 1 = cc in absurd (omega arith)
+      missing : (x : ℕ) → x < d .N → (o : Option ℕ) → Spot x first (logicals ws) (m .place x) o → o ≡ none → m .discarded x ≡ false → b .last x ≡ nothing
+      missing x h o (elsewhere n) e q = c .missing x h e q
+      missing x h o (there i g n) e q = let z : _≡_ {A = ℕ} 0 1 = cc in absurd (omega arith)
 
       present : (x p : ℕ) → x < d .N → (o : Option ℕ) → Spot x first (logicals ws) (m .place x) o → o ≡ some p → (a : Arrival) × (lastWrite b x ≡ some a) × (left p ≡ some a)
       present x p h o (elsewhere n) e =

@@ -15,6 +15,7 @@ use Rattle.model.specs.Device.{firstPage, pages, offsetOf, groupOf}
 use Rattle.model.specs.Record.{predict}
 use Rattle.model.specs.Spare.{nobody, middle, pageNamed}
 use Rattle.model.specs.Levels.{listing, levelsTo}
+use Rattle.model.specs.Marks.{isMarked}
 use Rattle.model.specs.State.{State, groupAt}
 use Rattle.model.specs.Sound.{soundState, soundGroups}
 use Rattle.model.proofs.Lists.{getD-default}
@@ -23,16 +24,17 @@ use Rattle.model.proofs.Limits.{limits, page-inside, page-block, page-split, N-
 use Rattle.model.proofs.Holder.{met-none, met-some, predict-line}
 use Rattle.model.proofs.Image.{image-middle}
 use Rattle.model.proofs.PageNamed.{page-named}
-use Rattle.calls.specs.Lookup.{at, nowhere, unnamed, lookedNamed, lookedAt, lookedBy, seek}
+use Rattle.calls.specs.Lookup.{Looked, at, nowhere, unnamed, lookedNamed, lookedAt, lookedBy, descend, seek}
 use Rattle.calls.specs.Collection.{gives, valid}
 use Rattle.calls.specs.PageMap.{PageMap}
 use Rattle.calls.proofs.Naming.{Names}
 use Rattle.calls.proofs.MapInvariant.{MapInv}
+use Rattle.calls.proofs.Marked.{seek-marked, seek-unmarked}
 use Rattle.calls.proofs.Invariant.{Lies, Inv}
 
 -- the page map beside a state
 abbrev pub mapOf : State → (ℕ → Option ℕ) → PageMap
-mapOf s place = record { device = s .device; counts = s .counts; place = place }
+mapOf s place = record { device = s .device; counts = s .counts; place = place; discarded = isMarked (s .marks) }
 
 -- every count of a list that passes `all` is within the bound
 counts-below : (b : ℕ) (cs : List ℕ) (k : ℕ) → all (λ c. leb c b) cs ≡ true → getD cs k 0 ≤ b
@@ -62,7 +64,7 @@ module _ (s : State) (spare : List ℕ) (place : ℕ → Option ℕ) (v : Inv s 
 
   -- A logical page that lies on page p is found there.
   pub seek-found : (x p : ℕ) (l : Lies s image x p) → Answers x p l
-  unfolding seek lookedBy lookedAt lookedNamed
+  unfolding descend lookedBy lookedAt lookedNamed
   seek-found x p l =
       let q : ℕ = firstPage (s .device) (l .block) + l .near in
       let fits : length (image (l .block)) ≤ s .device .B = image-fits (l .block) (l .inside) in
@@ -78,18 +80,31 @@ module _ (s : State) (spare : List ℕ) (place : ℕ → Option ℕ) (v : Inv s 
       record {
         levels = n;
         sought =
-            ap (lookedBy (s .device) spare x n) (m .1)
+            seek-unmarked s spare x (l .unmarked)
+            ∙ ap (lookedBy (s .device) spare x n) (m .1)
             ∙ ap (lookedAt (s .device) spare x n) z
             ∙ ap (λ (t : Bool). elim t [ true ↦ lookedNamed n q (pageNamed (s .device) spare q x) | false ↦ unnamed ]) exists
             ∙ ap (lookedNamed n q) named
             ∙ ap (λ (y : ℕ). at y q n) (sym (l .page));
       }
 
-  -- A logical page that lies nowhere is not found.
-  pub seek-nowhere : (x : ℕ) → x < s .device .N → place x ≡ none → seek s spare x ≡ nowhere (levelsTo (offsetOf x) (groupAt s (groupOf x)))
-  unfolding seek lookedBy
-  seek-nowhere x h e =
-      ap (lookedBy (s .device) spare x (levelsTo (offsetOf x) (groupAt s (groupOf x)))) (met-none (offsetOf x) (listing (groupAt s (groupOf x))) (v .unplaced x h e))
+  -- One that lies nowhere is not found, whether it is marked or not.
+  pub data Missed (x : ℕ) : Looked → Type 0 where
+    marked : isMarked (s .marks) x ≡ true → Missed x (nowhere 0)
+    unmarked : (levels : ℕ) → isMarked (s .marks) x ≡ false → Missed x (nowhere levels)
+
+  pub seek-nowhere : (x : ℕ) → x < s .device .N → place x ≡ none → Missed x (seek s spare x)
+  unfolding descend lookedBy
+  seek-nowhere x h e = go (isMarked (s .marks) x) refl
+    where
+      go : (t : Bool) → isMarked (s .marks) x ≡ t → Missed x (seek s spare x)
+      go true q = rw (seek-marked s spare x q) (marked q)
+      go false q =
+          let n : ℕ = levelsTo (offsetOf x) (groupAt s (groupOf x)) in
+          let sought : seek s spare x ≡ nowhere n =
+          seek-unmarked s spare x q
+          ∙ ap (lookedBy (s .device) spare x n) (met-none (offsetOf x) (listing (groupAt s (groupOf x))) (v .unplaced x h e q)) in
+          rw sought (unmarked n q)
 
   -- A page on which a logical page lies is valid, and a valid page is one on which its logical page lies.
   pub valid-names : Names (s .device .N) place (valid s spare) (middle (s .device) spare)
@@ -105,8 +120,12 @@ module _ (s : State) (spare : List ℕ) (place : ℕ → Option ℕ) (v : Inv s 
           let g : gives p (seek s spare x) ≡ true = ap (gives p) (seek-found x p l .sought) ∙ eq-eqb p p refl in
           (rw e (and-i _ _ (lt-ltb x (s .device .N) h) g), e)
 
+      missed : (x p : ℕ) (o : Looked) → Missed x o → gives p o ≡ false
+      missed x p o (marked e) = refl
+      missed x p o (unmarked n e) = refl
+
       found : (x p : ℕ) → x < s .device .N → (o : Option ℕ) → place x ≡ o → gives p (seek s spare x) ≡ true → place x ≡ some p
-      found x p b none e g = absurd (true≢false (sym g ∙ ap (gives p) (seek-nowhere x b e)))
+      found x p b none e g = absurd (true≢false (sym g ∙ missed x p (seek s spare x) (seek-nowhere x b e)))
       found x p b (some q) e g = e ∙ ap (λ (y : ℕ). some y) (sym (eqb-true p q (sym (ap (gives p) (seek-found x q (v .placed x q b e) .sought)) ∙ g)))
 
       only : (p : ℕ) → valid s spare p ≡ true → (middle (s .device) spare p < s .device .N) × (place (middle (s .device) spare p) ≡ some p)

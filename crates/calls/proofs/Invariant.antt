@@ -1,7 +1,8 @@
 -- What holds between state, spare area and page map from a format on: the state is sound, each block has the image of what was
--- written there, and each logical page that lies somewhere is met by a record that predicts a page near it. Assumes nothing.
+-- written there, each logical page that lies somewhere is met by a record that predicts a page near it, and for one that lies nowhere
+-- none is met or it is marked. Nothing is asked of a marked page's records. Assumes nothing.
 use mathlib.Core.Path.{_≡_, refl, sym, _∙_, ap, subst}
-use mathlib.Core.List.{List}
+use mathlib.Core.List.{List, []}
 use mathlib.Core.Option.{Option, none, some}
 use mathlib.Core.Logic.{_≢_}
 use mathlib.Core.Bool.{Bool, true, false}
@@ -12,16 +13,17 @@ use lib.Seq.{getD-set-same, getD-set-other}
 use lib.IntN.{pos}
 use borrow.Author.Tests.{eqb-true, eqb-false, eq-eqb, ne-eqb}
 use Rattle.model.specs.Lists.{elem}
-use Rattle.model.specs.Device.{Device, withinLimits, firstPage, offsetOf, groupOf, groupCount, stateLength, spareLength}
-use Rattle.model.specs.Levels.{listing}
+use Rattle.model.specs.Device.{Device, withinLimits, firstPage, offsetOf, groupOf, marksCount, groupCount, stateLength, spareLength}
+use Rattle.model.specs.Levels.{Group, listing}
+use Rattle.model.specs.Marks.{isMarked}
 use Rattle.model.specs.State.{State, groupAt}
 use Rattle.model.specs.Sound.{soundState}
 use Rattle.model.proofs.Lists.{Asc}
 use Rattle.model.proofs.Line.{Line, met, linePredict}
 use Rattle.model.proofs.Image.{Image}
 
--- Logical page x lies on page p: at place `slot` of `block`, whose image has x there; and the record met first for x predicts
--- the page at place `near` of the same block, a written one within g of p.
+-- Logical page x, which isn't marked, lies on page p: at place `slot` of `block`, whose image has x there; and the record met first
+-- for x predicts the page at place `near` of the same block, a written one within g of p.
 pub record Lies (s : State) (image : ℕ → List ℕ) (x p : ℕ) : Type 0 where
   pub block : ℕ
   pub slot : ℕ
@@ -36,6 +38,31 @@ pub record Lies (s : State) (image : ℕ → List ℕ) (x p : ℕ) : Type 0 wher
   pub nearWritten : near < length (image block)
   pub above : slot ≤ near + s .device .g
   pub below : near ≤ slot + s .device .g
+  pub unmarked : isMarked (s .marks) x ≡ false
+
+-- It lies there still in a state of the same device where its block's image and the line met for it are the same and it isn't marked.
+pub lies-still : (s : State) (image : ℕ → List ℕ) (x p : ℕ) (l : Lies s image x p) (counts marks : List ℕ) (groups : List Group) (image′ : ℕ → List ℕ)
+    → image′ (l .block) ≡ image (l .block)
+    → met (offsetOf x) (listing (getD groups (groupOf x) [])) ≡ met (offsetOf x) (listing (groupAt s (groupOf x)))
+    → isMarked marks x ≡ false
+    → Lies (record { bytes = s .bytes; device = s .device; counts = counts; marks = marks; groups = groups }) image′ x p
+unfolding groupAt
+lies-still s image x p l counts marks groups image′ same meets unmarked = record {
+  block = l .block;
+  slot = l .slot;
+  near = l .near;
+  line = l .line;
+  inside = l .inside;
+  page = l .page;
+  written = rw same (l .written);
+  carries = rw same (l .carries);
+  isMet = meets ∙ l .isMet;
+  predicts = l .predicts;
+  nearWritten = rw same (l .nearWritten);
+  above = l .above;
+  below = l .below;
+  unmarked = unmarked;
+}
 
 -- Each block has the spare entries of its image: as many logical pages as its count says, ascending, all below N.
 pub record Imaged (d : Device) (counts spare : List ℕ) (image : ℕ → List ℕ) : Type 0 where
@@ -50,12 +77,14 @@ pub record Inv (s : State) (spare : List ℕ) (place : ℕ → Option ℕ) : Typ
   pub limits : withinLimits (s .device) ≡ true
   pub bytes : s .bytes ≡ stateLength (s .device)
   pub counted : length (s .counts) ≡ s .device .M
+  pub marked : length (s .marks) ≡ marksCount (s .device)
   pub grouped : length (s .groups) ≡ groupCount (s .device)
   pub spared : length spare ≡ spareLength (s .device)
   pub sound : soundState s ≡ true
   pub imaged : Imaged (s .device) (s .counts) spare image
   pub placed : (x p : ℕ) → x < s .device .N → place x ≡ some p → Lies s image x p
-  pub unplaced : (x : ℕ) → x < s .device .N → place x ≡ none → met (offsetOf x) (listing (groupAt s (groupOf x))) ≡ none
+  pub unplaced : (x : ℕ) → x < s .device .N → place x ≡ none → isMarked (s .marks) x ≡ false
+      → met (offsetOf x) (listing (groupAt s (groupOf x))) ≡ none
 
 -- a function of blocks with another value at block k
 unfoldable pub update : ℕ → List ℕ → (ℕ → List ℕ) → ℕ → List ℕ

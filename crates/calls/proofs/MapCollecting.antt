@@ -9,11 +9,11 @@ use Prim.Native.Nat.{ℕ, _+_, _/_, _≤_, _<_}
 use native.Mathlib.Omega.{arith}
 use lib.ListN.{length, getD}
 use Rattle.model.specs.Lists.{elem, distinct}
-use Rattle.model.specs.Learning.{Write, logicals}
+use Rattle.model.specs.Learning.{Write, logicals, sources}
 use Rattle.model.specs.State.{freeBlocks, lowestIn}
 use Rattle.model.specs.Sound.{isEmpty}
 use Rattle.model.proofs.Bools.{is-false}
-use Rattle.model.proofs.Lists.{le-cases}
+use Rattle.model.proofs.Lists.{le-cases, At, elem-at}
 use Rattle.model.proofs.Counting.{pigeonhole}
 use Rattle.model.proofs.Blocks.{lowest-free}
 use Rattle.model.proofs.Limits.{limits, page-block}
@@ -21,7 +21,7 @@ use Rattle.model.proofs.Sorting.{logicals-length}
 use Rattle.calls.specs.Choice.{Used, blocksOf, pagesOf, firstOf, noGain}
 use Rattle.calls.specs.PageMap.{PageMap, isSome, logicalOn, mapVictims, mapMoves, writeCounts, mapWrite, clearCounts, mapErase}
 use Rattle.calls.proofs.Choosing.{victim-used, victims-distinct}
-use Rattle.calls.proofs.Moves.{Writable, moves-ready, not-moved, moves-taken}
+use Rattle.calls.proofs.Moves.{Writable, moves-ready, move-lies, not-moved, moves-taken}
 use Rattle.calls.proofs.Placing.{Spot, elsewhere, there, spot-view, first-of}
 use Rattle.calls.proofs.MapInvariant.{MapInv, owner-names}
 use Rattle.calls.proofs.MapWriting.{write-map, erase-map, clear-free, write-free, write-used}
@@ -48,6 +48,15 @@ module _ (m : PageMap) (v : MapInv m) where
   -- A block can take what is moved.
   pub moves-fit : Writable (m .device) (mapMoves m)
   moves-fit = moves-ready (m .device) (m .place) _ _ (owner-names m v) (m .counts)
+
+  -- A logical page that is moved lies somewhere.
+  pub move-place : (x : ℕ) → elem x (logicals mv) ≡ true → (x < m .device .N) × ((p : ℕ) × (m .place x ≡ some p))
+  move-place x t = go (elem-at x (logicals mv) t)
+    where
+      go : At x (logicals mv) → (x < m .device .N) × ((p : ℕ) × (m .place x ≡ some p))
+      go a =
+          let l = move-lies (m .device) (m .place) _ _ (owner-names m v) (m .counts) (a .index) (omega (arith, a .inside, logicals-length mv)) in
+          (rw (a .here) at (l .2), (getD (sources mv) (a .index) 0, rw (a .here) at (l .0)))
 
   -- A block that is taken is a used one of the device.
   pub taken-used : (k : ℕ) → elem k ks ≡ true → (k < length (m .counts)) × (getD (m .counts) k 0 ≢ 0)

@@ -17,10 +17,10 @@ use Rattle.model.proofs.Bools.{and-r, is-false}
 use Rattle.calls.specs.Refusals.{Refusal, notSound, notNamed, noFreeBlock, refusalNumber, _when_, firstRefusal}
 use Rattle.calls.specs.Outcome.{Answer, refused, accepted}
 use Rattle.calls.specs.Choice.{noGain}
-use Rattle.calls.specs.History.{Call, formatCall, flushCall, lookupCall, collectCall, compactCall, agreeCall, listCall}
-use Rattle.calls.specs.PageMap.{PageMap, mapVictims, mapMoves, mapWrite, mapErase, mapChecks, MapAnswers, formats, flushes, finds, misses, collects, compacts, agrees, lists, noLists, mapDone, MapPast, mapIdle, mapAfter, MapMakes, refuses, accepts, others}
+use Rattle.calls.specs.History.{Call, formatCall, flushCall, lookupCall, discardCall, collectCall, compactCall, agreeCall, listCall}
+use Rattle.calls.specs.PageMap.{PageMap, mapVictims, mapMoves, mapWrite, mapDiscard, mapErase, mapChecks, MapAnswers, formats, flushes, finds, misses, skips, discards, collects, compacts, agrees, lists, noLists, mapDone, MapPast, mapIdle, mapAfter, MapMakes, refuses, accepts, others}
 use Rattle.calls.specs.Demand3 as demands
-use Rattle.calls.specs.Demand3.{pageMaps, Right, unwritten, written, Fits, Between, aLookup, aCompaction, anAgreement, aListing, aRefusal, onDevice, Leads, Waits, FromFormat, Helped, AfterFormat}
+use Rattle.calls.specs.Demand3.{pageMaps, Right, unwritten, discardedLast, written, Fits, Between, aLookup, aDiscard, aCompaction, anAgreement, aListing, aRefusal, onDevice, Leads, Waits, FromFormat, Helped, AfterFormat}
 use Rattle.calls.proofs.Refusing.{Stopped, stops, is-clear, stopped, none-some, right-length, refused-not-accepted}
 use Rattle.calls.proofs.Gain.{gain}
 use Rattle.calls.proofs.MapInvariant.{owner-names}
@@ -34,7 +34,9 @@ unfolding accepted
 answers-accepted m c a (formats d) = refl
 answers-accepted m c a (flushes batch plan) = refl
 answers-accepted m c a (finds x p q n e) = refl
-answers-accepted m c a (misses x n e) = refl
+answers-accepted m c a (misses x n e d) = refl
+answers-accepted m c a (skips x d) = refl
+answers-accepted m c a (discards x) = refl
 answers-accepted m c a (collects plan erased) = refl
 answers-accepted m c a (compacts k n) = refl
 answers-accepted m c a (agrees s spare s′ spare′ t) = refl
@@ -52,27 +54,32 @@ works h c a h′ o n (refuses sized _ r e) = none-some (sym (n sized) ∙ e)
 works h c a h′ o n (accepts sized _ _ e p) = (answers-accepted (h .map) c a p, refl)
 works h c a h′ o n (others s spare s′ spare′ r) = absurd (true≢false (sym o))
 
--- a call that may come between leaves the map
-idles : (m : PageMap) (c : Call) (a : Answer) → Between c a → accepted a ≡ true → mapDone c m .map ≡ m
-unfolding mapDone noLists
-idles m c a (aLookup x _) t = refl
-idles m c a (aCompaction k _) t = refl
-idles m c a (anAgreement s spare s′ spare′ _) t = refl
-idles m c a (aListing k out _) t = refl
+-- a call that may come between leaves the map's device and counts
+abbrev Leaves : PageMap → PageMap → Type 0
+Leaves m m′ = (m′ .device ≡ m .device) × (m′ .counts ≡ m .counts)
+
+idles : (m : PageMap) (c : Call) (a : Answer) → Between c a → accepted a ≡ true → Leaves m (mapDone c m .map)
+unfolding mapDone mapDiscard noLists
+idles m c a (aLookup x _) t = (refl, refl)
+idles m c a (aDiscard x _) t = (refl, refl)
+idles m c a (aCompaction k _) t = (refl, refl)
+idles m c a (anAgreement s spare s′ spare′ _) t = (refl, refl)
+idles m c a (aListing k out _) t = (refl, refl)
 idles m c a (aRefusal _ _ r) t = absurd (true≢false (sym t ∙ r))
 
-between-same : (h : MapPast) (c : Call) (a : Answer) (h′ : MapPast) → Between c a → MapMakes h c a h′ → h′ .map ≡ h .map
+between-same : (h : MapPast) (c : Call) (a : Answer) (h′ : MapPast) → Between c a → MapMakes h c a h′ → Leaves (h .map) (h′ .map)
 unfolding mapIdle mapAfter
-between-same h c a h′ b (refuses sized _ r e) = refl
+between-same h c a h′ b (refuses sized _ r e) = (refl, refl)
 between-same h c a h′ b (accepts sized _ _ e p) = idles (h .map) c a b (answers-accepted (h .map) c a p)
-between-same h c a h′ b (others s spare s′ spare′ r) = refl
+between-same h c a h′ b (others s spare s′ spare′ r) = (refl, refl)
 
--- calls that come between keep all, and leave the map
-waited : (h h′ : MapPast) → Waits pageMaps h h′ → MapHolds h → MapHolds h′ × (h′ .map ≡ h .map)
-waited h h′ (demands.nothing _) v = (v, refl)
+-- calls that come between keep all, and leave device and counts
+waited : (h h′ : MapPast) → Waits pageMaps h h′ → MapHolds h → MapHolds h′ × Leaves (h .map) (h′ .map)
+waited h h′ (demands.nothing _) v = (v, (refl, refl))
 waited h h′ (demands.then _ c a h₁ _ b k w) v =
     let r = waited h₁ h′ w (makes-holds h c a h₁ v k) in
-    (r .0, r .1 ∙ between-same h c a h₁ b k)
+    let s = between-same h c a h₁ b k in
+    (r .0, (r .1 .0 ∙ s .0, r .1 .1 ∙ s .1))
 
 leads-hold : (h h′ : MapPast) → Leads pageMaps h h′ → MapHolds h → MapHolds h′
 leads-hold h h′ (demands.nothing _) v = v
@@ -92,10 +99,16 @@ module _ (h : MapPast) (v : MapHolds h) where
   right : (x : ℕ) → x < h .book .device .N → (a : Answer) (h′ : MapPast) → MapMakes h (lookupCall x) a h′ → Right (h .book) x a
   unfolding mapChecks
   right x b a h′ (refuses sized _ r e) = none-some (sym (is-clear _ (lt-leb (m .device .N) x (rw (← (v .kept .device)) b), tt)) ∙ e)
-  right x b a h′ (accepts sized _ _ e (misses _ n f)) = unwritten n (v .kept .missing x (rw (← (v .kept .device)) b) f)
+  right x b a h′ (accepts sized _ _ e (misses _ n f d)) = unwritten n (v .kept .missing x (rw (← (v .kept .device)) b) f d)
+  right x b a h′ (accepts sized _ _ e (skips _ d)) = discardedLast (v .kept .gone x (rw (← (v .kept .device)) b) d)
   right x b a h′ (accepts sized _ _ e (finds _ p q n f)) =
       let c = v .kept .present x p (rw (← (v .kept .device)) b) f in
       written p q n (c .0) (c .1) (c .2) (λ g. v .kept .once q p (c .0) g (c .2)) (λ g. ap (h .book .carried) g ∙ c .2)
+
+  -- a discard of one is accepted
+  discards-all : (x : ℕ) → x < h .book .device .N → (a : Answer) (h′ : MapPast) → MapMakes h (discardCall x) a h′ → accepted a ≡ true
+  unfolding mapChecks onDevice
+  discards-all x b a h′ k = works h (discardCall x) a h′ refl (λ sized. is-clear _ (lt-leb (m .device .N) x (rw (← (v .kept .device)) b), tt)) k .0
 
   -- a collection has room for what it moves
   has-room : (not (isEmpty (mapMoves m)) && isEmpty (freeBlocks 0 (m .counts))) ≡ false
@@ -140,6 +153,7 @@ module _ (h : MapPast) (v : MapHolds h) where
   unchecked sized (formatCall d) = (λ s. s .1 .1, λ s. s .1 .1)
   unchecked sized (flushCall batch plan) = (λ s. s .1 .1 .1 .1, λ s. s .1 .1 .1 .1)
   unchecked sized (lookupCall x) = (λ s. s .1, λ s. s .1)
+  unchecked sized (discardCall x) = (λ s. s .1, λ s. s .1)
   unchecked sized (collectCall plan erased) = (λ s. s .1 .1 .1 .1, λ s. s .1 .1 .1 .1)
   unchecked sized (compactCall k) = (λ s. s .1, λ s. s .1)
   unchecked sized (agreeCall s spare s′ spare′) = (λ s. s, λ s. s)
@@ -163,11 +177,9 @@ module _ (h : MapPast) (v : MapHolds h) where
       full (inr t) = t .1
 
 module _ (h : MapPast) (v : MapHolds h) (batch plan : List ℕ) (h′ : MapPast) (k : MapMakes h (flushCall batch plan) (refused noFreeBlock) h′) where
-  -- when the collection comes, the map is the same
-  before : (h₁ : MapPast) → Waits pageMaps h′ h₁ → MapHolds h₁ × (h₁ .map ≡ h .map)
-  before h₁ w =
-      let r = waited h′ h₁ w (makes-holds h _ _ h′ v k) in
-      (r .0, r .1 ∙ between-same h _ _ h′ (aRefusal _ _ (refused-not-accepted noFreeBlock)) k)
+  -- when the collection comes, device and counts are the same
+  before : (h₁ : MapPast) → Waits pageMaps h′ h₁ → MapHolds h₁ × Leaves (h .map) (h₁ .map)
+  before h₁ w = waited h h₁ (demands.then h _ _ h′ h₁ (aRefusal _ _ (refused-not-accepted noFreeBlock)) k w) v
 
   -- it is accepted, leaves two free blocks and the device
   collected : (h₁ : MapPast) → Waits pageMaps h′ h₁ → (plan′ erased : List ℕ) → length plan′ ≡ h .book .device .B → length erased ≡ h .book .device .M
@@ -176,10 +188,10 @@ module _ (h : MapPast) (v : MapHolds h) (batch plan : List ℕ) (h′ : MapPast)
   unfolding onDevice mapDone mapErase mapWrite
   collected h₁ w plan′ erased p e a h₂ c =
       let q = before h₁ w in
-      let one : length (freeBlocks 0 (h₁ .map .counts)) ≡ 1 = ap (λ (m : PageMap). length (freeBlocks 0 (m .counts))) (q .1) ∙ omega (arith, v .free, wants h v batch plan h′ k .1) in
-      let same : h .book .device ≡ h₁ .map .device = v .kept .device ∙ ap (λ (m : PageMap). m .device) (sym (q .1)) in
+      let one : length (freeBlocks 0 (h₁ .map .counts)) ≡ 1 = ap (λ (l : List ℕ). length (freeBlocks 0 l)) (q .1 .1) ∙ omega (arith, v .free, wants h v batch plan h′ k .1) in
+      let same : h .book .device ≡ h₁ .map .device = v .kept .device ∙ sym (q .1 .0) in
       let r = works h₁ (collectCall plan′ erased) a h₂ refl (collect-passes h₁ (q .0) plan′ erased (p ∙ ap (λ (d : Device). d .B) same) (e ∙ ap (λ (d : Device). d .M) same) one) c in
-      (r .0, rw (r .1) (collect-free (h₁ .map) (q .0 .inv) (λ n. q .0 .free) (q .0 .free) (gains h₁ (q .0) one)), ap (λ (m : PageMap). m .device) (r .1) ∙ ap (λ (m : PageMap). m .device) (q .1))
+      (r .0, rw (r .1) (collect-free (h₁ .map) (q .0 .inv) (λ n. q .0 .free) (q .0 .free) (gains h₁ (q .0) one)), ap (λ (m : PageMap). m .device) (r .1) ∙ q .1 .0)
 
   -- One collection helps.
   helped : Helped pageMaps (h .book .device) batch h′
@@ -189,10 +201,10 @@ module _ (h : MapPast) (v : MapHolds h) (batch plan : List ℕ) (h′ : MapPast)
     again = λ h₁ w plan′ erased p e a h₂ c h₃ w′ plan″ p″ a′ h₄ l.
         let r = collected h₁ w plan′ erased p e a h₂ c in
         let q = waited h₂ h₃ w′ (makes-holds h₁ _ _ h₂ (before h₁ w .0) c) in
-        let same : h₃ .map .device ≡ h .map .device = ap (λ (m : PageMap). m .device) (q .1) ∙ r .2 in
+        let same : h₃ .map .device ≡ h .map .device = q .1 .0 ∙ r .2 in
         let w = wants h v batch plan h′ k .0 in
         let f : Fits (h .map .device) batch plan″ = record { filled = w .filled; short = w .short; logical = w .logical; planned = p″ ∙ ap (λ (d : Device). d .B) (v .kept .device) } in
-        works h₃ (flushCall batch plan″) a′ h₄ refl (flush-passes h₃ (q .0) batch plan″ (subst (λ (d : Device). Fits d batch plan″) (sym same) f) (rw (q .1) (r .1))) l .0;
+        works h₃ (flushCall batch plan″) a′ h₄ refl (flush-passes h₃ (q .0) batch plan″ (subst (λ (d : Device). Fits d batch plan″) (sym same) f) (rw (q .1 .1) (r .1))) l .0;
   }
 
 -- The page map meets demand 3.
@@ -202,6 +214,7 @@ map-demand h f =
     record {
       lookups = right h v;
       only = λ x p q w e i j. v .kept .once p q w i j;
+      discards = discards-all h v;
       flushes = flush-answers h v;
       helps = helped h v;
       never = never h v;

@@ -17,8 +17,8 @@ use Rattle.calls.specs.Refusals.{firstRefusal}
 use Rattle.calls.specs.Outcome.{Answer, number, accepted, values, formatted}
 use Rattle.calls.specs.Choice.{blocksOf}
 use Rattle.calls.specs.Book.{writeOf, enter}
-use Rattle.calls.specs.History.{Call, formatCall, flushCall, collectCall, value, acceptedEntry, entryOf}
-use Rattle.calls.specs.PageMap.{PageMap, mapVictims, mapWrite, blankMap, mapChecks, mapDone, MapPast, mapIdle, mapAfter, MapMakes, refuses, accepts, others, noLists, MapAnswers, formats, flushes, finds, misses, collects, compacts, agrees, lists}
+use Rattle.calls.specs.History.{Call, formatCall, flushCall, discardCall, collectCall, value, acceptedEntry, entryOf}
+use Rattle.calls.specs.PageMap.{PageMap, mapVictims, mapWrite, mapClear, mapDiscard, blankMap, mapChecks, mapDone, MapPast, mapIdle, mapAfter, MapMakes, refuses, accepts, others, noLists, MapAnswers, formats, flushes, finds, misses, skips, discards, collects, compacts, agrees, lists}
 use Rattle.calls.specs.Demand3.{Fits}
 use Rattle.calls.proofs.Refusing.{clears, length-is, refused-not-accepted}
 use Rattle.calls.proofs.Moves.{Writable}
@@ -26,8 +26,10 @@ use Rattle.calls.proofs.Fitting.{batch-ready, batch-filled, fits-of}
 use Rattle.calls.proofs.MapInvariant.{MapInv}
 use Rattle.calls.proofs.MapWriting.{blank-map, write-map, write-free}
 use Rattle.calls.proofs.MapCollecting.{taken-fit, collect-map, collect-free}
+use Rattle.calls.proofs.MapDiscarding.{discard-map, clear-map}
 use Rattle.calls.proofs.Carrying.{Kept, idle-kept, flush-kept}
 use Rattle.calls.proofs.Copying.{collect-kept}
+use Rattle.calls.proofs.Discarding.{discard-kept}
 
 -- The claim that every call keeps.
 pub record MapHolds (h : MapPast) : Type 0 where
@@ -54,7 +56,8 @@ format-holds d h l = record {
   free = omega (arith, free-zeros 0 (d .M), limits d l .least-M);
   kept = record {
     device = refl;
-    missing = λ x i j. refl;
+    missing = λ x i j k. refl;
+    gone = λ x i j. absurd (true≢false (sym j));
     present = λ x p i j. let z : _≡_ {A = ℕ} 0 1 = cc in absurd (omega arith);
     once = λ p q a i j. let z : _≡_ {A = ℕ} 0 1 = cc in absurd (omega arith);
     past = λ p a i. let z : _≡_ {A = ℕ} 0 1 = cc in absurd (omega arith);
@@ -64,7 +67,7 @@ format-holds d h l = record {
 -- An accepted flush keeps all.
 flush-holds : (sized : Bool) (batch plan : List ℕ) (a : Answer) (h : MapPast) → MapHolds h → firstRefusal (mapChecks sized (flushCall batch plan) (h .map)) ≡ none → MapAnswers (h .map) (flushCall batch plan) a
     → MapHolds (mapAfter (flushCall batch plan) a (mapDone (flushCall batch plan) (h .map)) (h .book))
-unfolding mapChecks mapAfter mapDone mapWrite entryOf acceptedEntry accepted number value values
+unfolding mapChecks mapAfter mapDone mapWrite mapClear entryOf acceptedEntry accepted number value values
 flush-holds sized batch plan a h v e (flushes _ _) =
     let p = clears _ e in
     let f : Fits (h .map .device) batch plan = fits-of (h .map .device) batch plan (p .0) (p .1 .0) (p .1 .1 .0) in
@@ -72,10 +75,15 @@ flush-holds sized batch plan a h v e (flushes _ _) =
     let one : 1 ≤ length (freeBlocks 0 (h .map .counts)) = omega arith in
     let r : Writable (h .map .device) (sorted batch) = batch-ready (h .map .device) batch plan f in
     record {
-      inv = write-map (h .map) (v .inv) (sorted batch) r (λ n. one);
+      inv = write-map (mapClear batch (h .map)) (clear-map (h .map) (v .inv) batch) (sorted batch) r (λ n. one);
       free = omega (arith, write-free (sorted batch) (h .map .counts) (λ n. one));
       kept = flush-kept (h .map) (v .inv) (h .book) (v .kept) batch plan r (batch-filled batch (f .filled)) one (f .planned);
     }
+
+-- An accepted discard keeps all.
+discard-holds : (x : ℕ) (a : Answer) (h : MapPast) → MapHolds h → MapAnswers (h .map) (discardCall x) a → MapHolds (mapAfter (discardCall x) a (mapDone (discardCall x) (h .map)) (h .book))
+unfolding mapAfter mapDone mapDiscard noLists entryOf acceptedEntry accepted number
+discard-holds x a h v (discards _) = record { inv = discard-map (h .map) (v .inv) x; free = v .free; kept = discard-kept (h .map) (h .book) (v .kept) x }
 
 -- An accepted collection keeps all.
 collect-holds : (sized : Bool) (plan erased : List ℕ) (a : Answer) (h : MapPast) → MapHolds h → firstRefusal (mapChecks sized (collectCall plan erased) (h .map)) ≡ none → MapAnswers (h .map) (collectCall plan erased) a
@@ -98,7 +106,9 @@ unfolding mapAfter mapIdle mapDone noLists entryOf acceptedEntry accepted number
 accepted-holds sized c a h v e (formats d) = format-holds d h (not-false (withinLimits d) (clears _ e .0))
 accepted-holds sized c a h v e (flushes batch plan) = flush-holds sized batch plan a h v e (flushes batch plan)
 accepted-holds sized c a h v e (finds x p q n f) = idle-holds h v
-accepted-holds sized c a h v e (misses x n f) = idle-holds h v
+accepted-holds sized c a h v e (misses x n f g) = idle-holds h v
+accepted-holds sized c a h v e (skips x g) = idle-holds h v
+accepted-holds sized c a h v e (discards x) = discard-holds x a h v (discards x)
 accepted-holds sized c a h v e (collects plan erased) = collect-holds sized plan erased a h v e (collects plan erased)
 accepted-holds sized c a h v e (compacts k n) = idle-holds h v
 accepted-holds sized c a h v e (agrees s spare s′ spare′ t) = idle-holds h v

@@ -62,7 +62,7 @@ module _ (m : PageMap) (v : MapInv m) where
     old-page : (x p : ℕ) → x < m .device .N → m .place x ≡ some p → p / m .device .B ≢ k
     old-page = off-free k (lowest-free (m .counts) f .1)
 
-    filled : MapInv (record { device = m .device; counts = counts′; place = place′ })
+    filled : MapInv (record { device = m .device; counts = counts′; place = place′; discarded = m .discarded })
     filled = record {
       limits = v .limits;
       counted = length-set (m .counts) k (length ws) ∙ v .counted;

@@ -18,11 +18,12 @@ use Rattle.calls.specs.Refusals.{Refusal, badNumbers, badLength, firstRe
 use Rattle.calls.specs.Format.{formatChecks}
 use Rattle.calls.specs.Flush.{flushChecks}
 use Rattle.calls.specs.Lookup.{lookupChecks}
+use Rattle.calls.specs.Discard.{discardChecks}
 use Rattle.calls.specs.Collection.{collectChecks}
 use Rattle.calls.specs.Compaction.{compactChecks}
 use Rattle.calls.specs.Listing.{listChecks}
 use Rattle.calls.specs.Outcome.{withOut}
-use Rattle.calls.specs.History.{formatCall, flushCall, lookupCall, collectCall, compactCall, listCall, lend}
+use Rattle.calls.specs.History.{formatCall, flushCall, lookupCall, discardCall, collectCall, compactCall, listCall, lend}
 use Rattle.calls.specs.PageMap.{PageMap, mapChecks}
 use Rattle.calls.proofs.Refusing.{right-length}
 use Rattle.calls.proofs.Invariant.{Inv}
@@ -74,6 +75,11 @@ module _ (s : State) (spare : List ℕ) (place : ℕ → Option ℕ) (v : Inv s 
   pub lookup-checks : (x : ℕ) → firstRefusal (lookupChecks x (lend s spare [] [])) ≡ firstRefusal (mapChecks true (lookupCall x) m)
   unfolding lookupChecks mapChecks lend firstRefusal orElse
   lookup-checks x = rw (numbers-there, state-right, spare-right, sound-group (groupOf x))
+
+  -- .. a discard, which refuses as lookup does ..
+  pub discard-checks : (x : ℕ) → firstRefusal (discardChecks x (lend s spare [] [])) ≡ firstRefusal (mapChecks true (discardCall x) m)
+  unfolding mapChecks
+  discard-checks x = lookup-checks x
 
   -- .. a compaction ..
   pub compact-checks : (k : ℕ) → firstRefusal (compactChecks k (lend s spare [] [])) ≡ firstRefusal (mapChecks true (compactCall k) m)

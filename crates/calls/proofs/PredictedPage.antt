@@ -1,8 +1,8 @@
 -- No page's entries but the predicted one's decide a lookup. Assumes nothing.
-use mathlib.Core.Path.{_≡_, refl, _∙_, ap}
+use mathlib.Core.Path.{_≡_, refl, sym, _∙_, ap}
 use mathlib.Core.List.{List, []}
 use mathlib.Core.Option.{Option, none, some}
-use mathlib.Core.Bool.{true, false, _&&_}
+use mathlib.Core.Bool.{Bool, true, false, _&&_}
 use Prim.Native.Nat.{ℕ, zero, suc, _+_, _-_, _<_}
 use native.Mathlib.Omega.{arith}
 use lib.Dec.{ltb, leb, eqb}
@@ -13,12 +13,14 @@ use Rattle.model.specs.Device.{Device, pages, groupOf, offsetOf, namesPerPage}
 use Rattle.model.specs.Record.{Record, predict}
 use Rattle.model.specs.Spare.{entry, middle, names, lowestNaming, pageNamed}
 use Rattle.model.specs.Levels.{listing, holder, levelsTo}
+use Rattle.model.specs.Marks.{isMarked}
 use Rattle.model.specs.State.{State, groupAt}
 use Rattle.calls.specs.Refusals.{firstRefusal, wrongLength, wrongSpare}
-use Rattle.calls.specs.Lookup.{unnamed, lookedNamed, lookedAt, lookedBy, seek, answerOf, lookupChecks, lookupDone}
+use Rattle.calls.specs.Lookup.{unnamed, lookedNamed, lookedAt, lookedBy, descend, seek, answerOf, lookupChecks, lookupDone}
 use Rattle.calls.specs.History.{lend, lentTo, checksOf, effect, run}
 use Rattle.calls.specs.Demand3.{Predicted, NoOtherPage}
 use Rattle.calls.proofs.Decided.{unless-alike}
+use Rattle.calls.proofs.Marked.{seek-marked, seek-unmarked}
 
 module _ (d : Device) (spare spare′ : List ℕ) (p x : ℕ) (same : (j : ℕ) → j < namesPerPage d → entry d spare p j ≡ entry d spare′ p j) where
   lowest-same : (j n : ℕ) → j + n ≡ namesPerPage d → lowestNaming d spare p x j n ≡ lowestNaming d spare′ p x j n
@@ -38,8 +40,8 @@ module _ (d : Device) (spare spare′ : List ℕ) (p x : ℕ) (same : (j : ℕ) 
 seek-same : (s : State) (spare spare′ : List ℕ) (x : ℕ)
     → ((p j : ℕ) → Predicted s x p → j < namesPerPage (s .device) → entry (s .device) spare p j ≡ entry (s .device) spare′ p j)
     → seek s spare x ≡ seek s spare′ x
-unfolding seek lookedBy lookedAt
-seek-same s spare spare′ x same = go (holder (offsetOf x) (listing (groupAt s (groupOf x)))) refl
+unfolding descend lookedBy lookedAt
+seek-same s spare spare′ x same = marks (isMarked (s .marks) x) refl
   where
     d : Device
     d = s .device
@@ -56,6 +58,10 @@ seek-same s spare spare′ x same = go (holder (offsetOf x) (listing (groupAt s 
     go : (o : Option Record) → holder (offsetOf x) (listing (groupAt s (groupOf x))) ≡ o → lookedBy d spare x n o ≡ lookedBy d spare′ x n o
     go none e = refl
     go (some r) e = at-page r e (predict r (offsetOf x)) refl
+
+    marks : (t : Bool) → isMarked (s .marks) x ≡ t → seek s spare x ≡ seek s spare′ x
+    marks true q = seek-marked s spare x q ∙ sym (seek-marked s spare′ x q)
+    marks false q = seek-unmarked s spare x q ∙ go (holder (offsetOf x) (listing (groupAt s (groupOf x)))) refl ∙ sym (seek-unmarked s spare′ x q)
 
 checks-same : (s : State) (spare spare′ : List ℕ) (x : ℕ) → length spare ≡ length spare′
     → firstRefusal (lookupChecks x (lend s spare [] [])) ≡ firstRefusal (lookupChecks x (lend s spare′ [] []))

@@ -1,45 +1,52 @@
 -- The definitions simulate the page map: each call answers what the map answers, and leaves state, spare area and book that show what
 -- the map leaves. Assumes nothing.
-use mathlib.Core.Path.{_≡_, refl, sym, _∙_, ap, ap₂, subst}
+use mathlib.Core.Path.{_≡_, refl, sym, _∙_, ap, ap₂, subst, fun-ext}
 use mathlib.Core.List.{List, [], _∷_}
 use mathlib.Core.Option.{Option, none, some}
-use mathlib.Core.Bool.{true≢false, Bool, true, false, not, _&&_}
+use mathlib.Core.Bool.{true≢false, Bool, true, false, not, _&&_, and-true, and-false}
 use Prim.Native.Nat.{ℕ, _≤_, _<_}
 use native.Mathlib.Omega.{arith}
 use lib.ListN.{length}
 use borrow.Author.Tests.{ltb-false, leb-false, not-false}
-use Rattle.model.specs.Device.{Device, withinLimits, firstPage}
-use Rattle.model.specs.Learning.{Write, sorted}
-use Rattle.model.specs.State.{State, withGroups, freeBlocks, lowestIn, lowestFree}
+use Rattle.model.specs.Lists.{elem}
+use Rattle.model.specs.Device.{Device, withinLimits, firstPage, marksCount}
+use Rattle.model.specs.Learning.{Write, sorted, logicals}
+use Rattle.model.specs.Marks.{markByte, isMarked, unmarkAll}
+use Rattle.model.specs.State.{State, withMarks, withGroups, freeBlocks, lowestIn, lowestFree}
 use Rattle.model.specs.Sound.{isEmpty}
+use Rattle.model.proofs.Marks.{length-unmarkAll, none-marked, mark-inside, mark-marked, unmarkAll-marked}
+use Rattle.model.proofs.Sorting.{sorted-elem}
 use Rattle.calls.specs.Refusals.{Refusal, firstRefusal}
-use Rattle.calls.specs.Outcome.{Lent, withOut, Answer, flushed, refused, accepted, Outcome}
+use Rattle.calls.specs.Outcome.{Lent, withState, withOut, Answer, flushed, refused, accepted, Outcome}
 use Rattle.calls.specs.Format.{blankState, formatChecks, formatDone}
-use Rattle.calls.specs.Flush.{writeBlock, flushDone}
-use Rattle.calls.specs.Lookup.{seek, answerOf, lookupDone}
+use Rattle.calls.specs.Flush.{writeBlock, clearMarks, flushDone}
+use Rattle.calls.specs.Lookup.{Looked, seek, answerOf, lookupDone}
+use Rattle.calls.specs.Discard.{discardPage, discardDone}
 use Rattle.calls.specs.Collection.{moveAll, collectDone}
 use Rattle.calls.specs.Compaction.{compactDone, compactGroup}
 use Rattle.calls.specs.Agreement.{agreeDone}
 use Rattle.calls.specs.Listing.{listDone}
 use Rattle.calls.specs.Book.{Entry, noEntry, enter}
-use Rattle.calls.specs.History.{Call, formatCall, flushCall, lookupCall, collectCall, compactCall, agreeCall, listCall, lend, lentTo, checksOf, effect, run, acceptedEntry, entryOf, Past, pastAfter, step}
-use Rattle.calls.specs.PageMap.{PageMap, mapMoves, mapWrite, mapErase, blankMap, mapChecks, MapAnswers, formats, flushes, finds, misses, collects, compacts, lists, noLists, mapDone, MapPast, mapIdle, mapAfter, MapMakes, others}
+use Rattle.calls.specs.History.{Call, formatCall, flushCall, lookupCall, discardCall, collectCall, compactCall, agreeCall, listCall, lend, lentTo, checksOf, effect, run, acceptedEntry, entryOf, Past, pastAfter, step}
+use Rattle.calls.specs.PageMap.{PageMap, mapMoves, mapWrite, mapClear, mapDiscard, mapErase, blankMap, mapChecks, MapAnswers, formats, flushes, finds, misses, skips, discards, collects, compacts, lists, noLists, mapDone, MapPast, mapIdle, mapAfter, MapMakes, others}
 use Rattle.calls.specs.PageMap as maps
 use Rattle.calls.specs.Demand3.{pageMaps, Defined, definitions}
 use Rattle.calls.proofs.Refusing.{clears, refused-not-accepted}
 use Rattle.calls.proofs.Fitting.{batch-ready, batch-filled, fits-of, some-there, some-left}
 use Rattle.calls.proofs.Invariant.{Inv}
-use Rattle.calls.proofs.Found.{mapOf, seek-found, seek-nowhere}
-use Rattle.calls.proofs.Keeping.{format-inv, compact-inv}
-use Rattle.calls.proofs.Collected.{Rest, rest, moved-rest, moved-inv, collectBy, collect-same, collect-rest, collect-inv}
+use Rattle.calls.proofs.Found.{mapOf, seek-found, Missed, marked, unmarked, seek-nowhere}
+use Rattle.calls.proofs.Keeping.{format-inv, compact-inv, discard-inv}
+use Rattle.calls.proofs.Writing.{Fresh}
+use Rattle.calls.proofs.Collected.{Rest, rest, moved-rest, written-inv, collectBy, collect-same, collect-rest, collect-inv}
 use Rattle.calls.proofs.Decided.{Decided, refuses, accepts, decided}
-use Rattle.calls.proofs.Passing.{format-checks, flush-checks, lookup-checks, compact-checks, list-checks, collect-checks}
+use Rattle.calls.proofs.Passing.{format-checks, flush-checks, lookup-checks, discard-checks, compact-checks, list-checks, collect-checks}
 use Rattle.calls.proofs.Simulation.{Simulates}
 
 -- State, spare area and book show a page map with its book.
 pub record Shows (h : Past) (k : MapPast) : Type 0 where
   pub device : h .state .device ≡ k .map .device
   pub counts : h .state .counts ≡ k .map .counts
+  pub marks : isMarked (h .state .marks) ≡ k .map .discarded
   pub inv : Inv (h .state) (h .spare) (k .map .place)
   pub book : h .book ≡ k .book
 
@@ -62,6 +69,7 @@ unfolding lentTo lend
 lent-same (formatCall d) s spare = (refl, refl)
 lent-same (flushCall batch plan) s spare = (refl, refl)
 lent-same (lookupCall x) s spare = (refl, refl)
+lent-same (discardCall x) s spare = (refl, refl)
 lent-same (collectCall plan erased) s spare = (refl, refl)
 lent-same (compactCall k) s spare = (refl, refl)
 lent-same (agreeCall a sa b sb) s spare = (refl, refl)
@@ -69,15 +77,16 @@ lent-same (listCall k out) s spare = (refl, refl)
 
 -- an accepted call: the map accepts it with this answer, and what is left shows what the map leaves
 done : (c : Call) (h : Past) (m : PageMap) (out : Outcome) (sized : Bool) → firstRefusal (mapChecks sized c m) ≡ none → MapAnswers m c (out .answer)
-    → Rest (out .after) (mapDone c m .map .device) (mapDone c m .map .counts) (mapDone c m .plan) (mapDone c m .erased)
-    → Inv (out .after .state) (out .after .spare) (mapDone c m .map .place) → Simulated c h (beside m h) out
+    → (ms : List ℕ) → Rest (out .after) (mapDone c m .map .device) (mapDone c m .map .counts) ms (mapDone c m .plan) (mapDone c m .erased)
+    → isMarked ms ≡ mapDone c m .map .discarded → Inv (out .after .state) (out .after .spare) (mapDone c m .map .place) → Simulated c h (beside m h) out
 unfolding pastAfter mapAfter
-done c h m out sized e a r v = (
+done c h m out sized e a ms r d v = (
   mapAfter c (out .answer) (mapDone c m) (h .book),
   maps.accepts sized c (out .answer) e a,
   record {
     device = r .device;
     counts = r .counts;
+    marks = ap isMarked (r .marks) ∙ d;
     inv = v;
     book = ap₂ (λ (p q : List ℕ). enter (entryOf c (out .answer) p q) (h .book)) (r .plan) (r .erased);
   },
@@ -88,7 +97,18 @@ format-made : (d : Device) (h : Past) (m : PageMap) (sized : Bool) → firstRefu
     → Simulated (formatCall d) h (beside m h) (formatDone d (lend (h .state) (h .spare) [] []))
 unfolding formatDone blankState blankMap mapChecks mapDone noLists lend
 format-made d h m sized e =
-    done (formatCall d) h m _ sized e (formats d) (rest _) (format-inv d (not-false (withinLimits d) (clears _ e .0)))
+    done (formatCall d) h m _ sized e (formats d) _ (rest _) (fun-ext (none-marked (marksCount d))) (format-inv d (not-false (withinLimits d) (clears _ e .0)))
+
+-- a flush clears the marks of what it writes
+flush-fresh : (batch marks : List ℕ) → Fresh (logicals (sorted batch)) marks (unmarkAll batch marks)
+flush-fresh batch marks = record {
+  size = length-unmarkAll batch marks;
+  kept = λ x n. after x (sym (sorted-elem x batch) ∙ n) ∙ and-true (isMarked marks x);
+  cleared = λ x t. after x (sym (sorted-elem x batch) ∙ t) ∙ and-false (isMarked marks x);
+}
+  where
+    after : (x : ℕ) {t : Bool} → elem x batch ≡ t → isMarked (unmarkAll batch marks) x ≡ (isMarked marks x && not t)
+    after x e = unmarkAll-marked batch marks x ∙ ap (λ (t : Bool). isMarked marks x && not t) e
 
 -- writes are on the lowest-numbered free block
 write-moves : (ws : List Write) (x : Lent) → 1 ≤ length ws → writeBlock ws (lowestFree (x .state)) x ≡ moveAll ws x
@@ -109,6 +129,7 @@ module _ (h : Past) (place : ℕ → Option ℕ) (v : Inv (h .state) (h .spare) 
       record {
         device = ap (λ (s : State). s .device) (same .0);
         counts = ap (λ (s : State). s .counts) (same .0);
+        marks = ap (λ (s : State). isMarked (s .marks)) (same .0);
         inv = rw (same .0, same .1) v;
         book = ap (λ (n : Entry). enter n (h .book)) (refused-entry c r (x .plan) (x .erased));
       }
@@ -127,31 +148,44 @@ module _ (h : Past) (place : ℕ → Option ℕ) (v : Inv (h .state) (h .spare) 
       go o (refuses r e) = (mapIdle (beside m h), maps.refuses sized c r (sym same ∙ e), idle c r)
 
   flush-made : (batch plan : List ℕ) → firstRefusal (mapChecks true (flushCall batch plan) m) ≡ none → Simulated (flushCall batch plan) h (beside m h) (flushDone batch (lend (h .state) (h .spare) plan []))
-  unfolding flushDone mapChecks mapDone mapWrite lend
+  unfolding flushDone clearMarks withMarks mapChecks mapDone mapWrite mapClear lend
   flush-made batch plan e =
       let x : Lent = lend (h .state) (h .spare) plan [] in
       let p = clears _ e in
       let f = fits-of (m .device) batch plan (p .0) (p .1 .0) (p .1 .1 .0) in
+      let cleared : Lent = withState (clearMarks batch (h .state)) x in
       let two : 2 ≤ length (freeBlocks 0 (m .counts)) = ltb-false (length (freeBlocks 0 (m .counts))) 2 (p .1 .1 .1 .0) in
       subst (λ (y : Lent). Simulated (flushCall batch plan) h (beside m h) (record { answer = flushed (firstPage (m .device) (lowestIn (m .counts))) (length (sorted batch)); after = y }))
-      (sym (write-moves (sorted batch) x (batch-filled batch (f .filled))))
-      (done (flushCall batch plan) h m _ true e (flushes batch plan) (moved-rest (sorted batch) x) (moved-inv (sorted batch) x place v (batch-ready (m .device) batch plan f) (λ n. omega arith)))
+      (sym (write-moves (sorted batch) cleared (batch-filled batch (f .filled))))
+      (done (flushCall batch plan) h m _ true e (flushes batch plan) _ (moved-rest (sorted batch) cleared) (fun-ext (unmarkAll-marked batch (h .state .marks)))
+      (written-inv (sorted batch) x place v (batch-ready (m .device) batch plan f) (batch-filled batch (f .filled)) (omega arith) (unmarkAll batch (h .state .marks)) (flush-fresh batch (h .state .marks))))
 
   lookup-made : (x : ℕ) → firstRefusal (mapChecks true (lookupCall x) m) ≡ none
       → Simulated (lookupCall x) h (beside m h) (lookupDone x (lend (h .state) (h .spare) [] []))
   unfolding lookupDone mapChecks mapDone noLists lend answerOf
-  lookup-made x e = done (lookupCall x) h m _ true e (answers (place x) refl) (rest _) v
+  lookup-made x e = done (lookupCall x) h m _ true e (answers (place x) refl) _ (rest _) refl v
     where
       below : x < m .device .N
       below = leb-false (m .device .N) x (clears _ e .0)
 
+      missed : place x ≡ none → (o : Looked) → Missed (h .state) (h .spare) place v x o → MapAnswers m (lookupCall x) (answerOf o)
+      missed q o (marked t) = skips x t
+      missed q o (unmarked n t) = misses x n q t
+
       answers : (o : Option ℕ) → place x ≡ o → MapAnswers m (lookupCall x) (answerOf (seek (h .state) (h .spare) x))
-      answers none q = rw (seek-nowhere (h .state) (h .spare) place v x below q) (misses x _ q)
+      answers none q = missed q (seek (h .state) (h .spare) x) (seek-nowhere (h .state) (h .spare) place v x below q)
       answers (some p) q = rw (seek-found (h .state) (h .spare) place v x p (v .placed x p below q) .sought) (finds x p _ _ q)
+
+  discard-made : (x : ℕ) → firstRefusal (mapChecks true (discardCall x) m) ≡ none → Simulated (discardCall x) h (beside m h) (discardDone x (lend (h .state) (h .spare) [] []))
+  unfolding discardDone discardPage withMarks mapChecks mapDone mapDiscard noLists lend
+  discard-made x e =
+      let below : x < m .device .N = leb-false (m .device .N) x (clears _ e .0) in
+      let inside : markByte x < length (h .state .marks) = omega (arith, mark-inside (m .device) x below, v .marked) in
+      done (discardCall x) h m _ true e (discards x) _ (rest _) (fun-ext (mark-marked x (h .state .marks) inside)) (discard-inv (h .state) (h .spare) place v x below)
 
   compact-made : (k : ℕ) → firstRefusal (mapChecks true (compactCall k) m) ≡ none → Simulated (compactCall k) h (beside m h) (compactDone k (lend (h .state) (h .spare) [] []))
   unfolding compactDone compactGroup withGroups mapDone noLists lend
-  compact-made k e = done (compactCall k) h m _ true e (compacts k _) (rest _) (compact-inv (h .state) (h .spare) place v k)
+  compact-made k e = done (compactCall k) h m _ true e (compacts k _) _ (rest _) refl (compact-inv (h .state) (h .spare) place v k)
 
   collect-made : (plan erased : List ℕ) → firstRefusal (mapChecks true (collectCall plan erased) m) ≡ none
       → Simulated (collectCall plan erased) h (beside m h) (collectDone (lend (h .state) (h .spare) plan erased))
@@ -159,14 +193,14 @@ module _ (h : Past) (place : ℕ → Option ℕ) (v : Inv (h .state) (h .spare) 
   collect-made plan erased e =
       let x : Lent = lend (h .state) (h .spare) plan erased in
       subst (λ (o : Outcome). Simulated (collectCall plan erased) h (beside m h) o) (sym (collect-same x place v))
-      (done (collectCall plan erased) h m _ true e (collects plan erased) (collect-rest x place v) (collect-inv x place v (room (clears _ e .1 .1 .1 .0))))
+      (done (collectCall plan erased) h m _ true e (collects plan erased) _ (collect-rest x place v) refl (collect-inv x place v (room (clears _ e .1 .1 .1 .0))))
     where
       room : (not (isEmpty (mapMoves m)) && isEmpty (freeBlocks 0 (m .counts))) ≡ false → 1 ≤ length (mapMoves m) → 1 ≤ length (freeBlocks 0 (m .counts))
       room t n = some-there (freeBlocks 0 (m .counts)) (rw (some-left (mapMoves m) n) at t)
 
   list-made : (k : ℕ) (out : List ℕ) → firstRefusal (mapChecks true (listCall k out) m) ≡ none → Simulated (listCall k out) h (beside m h) (listDone k (withOut out (lend (h .state) (h .spare) [] [])))
   unfolding listDone mapDone noLists lend
-  list-made k out e = done (listCall k out) h m _ true e (lists k out _) (rest _) v
+  list-made k out e = done (listCall k out) h m _ true e (lists k out _) _ (rest _) refl v
 
   -- an agreement is of two states that the map doesn't know
   agree-made : (s : State) (spare : List ℕ) (s′ : State) (spare′ : List ℕ) → Simulated (agreeCall s spare s′ spare′) h (beside m h) (run (agreeCall s spare s′ spare′) (h .state) (h .spare))
@@ -177,7 +211,7 @@ module _ (h : Past) (place : ℕ → Option ℕ) (v : Inv (h .state) (h .spare) 
       x = lend (h .state) (h .spare) [] []
 
       go : (o : Outcome) → Decided (checksOf (agreeCall s spare s′ spare′) x) x (agreeDone s spare s′ spare′ x) o → Simulated (agreeCall s spare s′ spare′) h (beside m h) o
-      go o (accepts e) = done (agreeCall s spare s′ spare′) h m _ true refl (maps.agrees s spare s′ spare′ _) (rest _) v
+      go o (accepts e) = done (agreeCall s spare s′ spare′) h m _ true refl (maps.agrees s spare s′ spare′ _) _ (rest _) refl v
       go o (refuses r e) = (mapIdle (beside m h), others s spare s′ spare′ r, idle (agreeCall s spare s′ spare′) r)
 
   -- every call
@@ -186,6 +220,7 @@ module _ (h : Past) (place : ℕ → Option ℕ) (v : Inv (h .state) (h .spare) 
   made (formatCall d) = decide (formatCall d) _ (format-checks d (h .state) (h .spare) m) (format-made d h m _)
   made (flushCall batch plan) = decide (flushCall batch plan) true (flush-checks (h .state) (h .spare) place v batch plan) (flush-made batch plan)
   made (lookupCall x) = decide (lookupCall x) true (lookup-checks (h .state) (h .spare) place v x) (lookup-made x)
+  made (discardCall x) = decide (discardCall x) true (discard-checks (h .state) (h .spare) place v x) (discard-made x)
   made (collectCall plan erased) = decide (collectCall plan erased) true (collect-checks (h .state) (h .spare) place v plan erased) (collect-made plan erased)
   made (compactCall k) = decide (compactCall k) true (compact-checks (h .state) (h .spare) place v k) (compact-made k)
   made (agreeCall s spare s′ spare′) = agree-made s spare s′ spare′
@@ -214,7 +249,7 @@ refines = record {
   books = λ h k r. r .book;
   frees = λ h k r. ap (λ (l : List ℕ). length (freeBlocks 0 l)) (r .counts);
   steps = λ h k r c a h′ d.
-      let same : beside (mapOf (h .state) (k .map .place)) h ≡ k = λ i. record { map = record { device = r .device i; counts = r .counts i; place = k .map .place }; book = r .book i } in
+      let same : beside (mapOf (h .state) (k .map .place)) h ≡ k = λ i. record { map = record { device = r .device i; counts = r .counts i; place = k .map .place; discarded = r .marks i }; book = r .book i } in
       simulated h k c a h′ d (subst (λ (k : MapPast). Simulated c h k (run c (h .state) (h .spare))) same (made h (k .map .place) (r .inv) c));
   starts = λ h d a h′ made t.
       let s = simulated h (beside (blankMap d) h) (formatCall d) a h′ made (started h d (ap accepted (sym (made .answered)) ∙ t)) in

@@ -11,7 +11,7 @@ use lib.ListN.{length, drop}
 use borrow.Author.Tests.{eq-eqb, ne-eqb, eqb-true, not-false}
 use Rattle.model.specs.Lists.{orElse}
 use Rattle.calls.specs.Refusals.{Refusal, refusalNumber, Check, firstRefusal, wrongLength}
-use Rattle.calls.specs.Outcome.{Answer, formatted, flushed, found, notWritten, collected, compacted, agreed, listed, refused, number, accepted}
+use Rattle.calls.specs.Outcome.{Answer, formatted, flushed, found, notWritten, discarded, collected, compacted, agreed, listed, refused, number, accepted}
 
 -- no check applies
 abbrev pub Clear : List Check → Type 0
@@ -136,6 +136,7 @@ numbered-refused formatted h = absurd (h refl)
 numbered-refused (flushed p n) h = absurd (h refl)
 numbered-refused (found p q n) h = absurd (h refl)
 numbered-refused (notWritten n) h = absurd (h refl)
+numbered-refused discarded h = absurd (h refl)
 numbered-refused (collected p n e) h = absurd (h refl)
 numbered-refused (compacted n) h = absurd (h refl)
 numbered-refused (agreed t) h = absurd (h refl)

@@ -7,7 +7,7 @@ use Prim.Native.Nat.{ℕ}
 use Rattle.model.specs.Device.{Device}
 use Rattle.calls.specs.Refusals.{noFreeBlock}
 use Rattle.calls.specs.Outcome.{Answer, refused, accepted}
-use Rattle.calls.specs.History.{Call, formatCall, flushCall, lookupCall}
+use Rattle.calls.specs.History.{Call, formatCall, flushCall, lookupCall, discardCall}
 use Rattle.calls.specs.Demand3 as demands
 use Rattle.calls.specs.Demand3.{Machine, Leads, Waits, FromFormat, Helped, Demanded, AfterFormat}
 
@@ -66,6 +66,7 @@ module _ (m n : Machine) (Related : m .Situation → n .Situation → Type 0) (s
         let one = s .steps h k r (lookupCall x) a h′ made in
         rw e (c .lookups x (rw (← e) b) a (one .0) (one .1));
     only = rw e (c .only);
+    discards = λ x b a h′ made. let one = s .steps h k r (discardCall x) a h′ made in c .discards x (rw (← e) b) a (one .0) (one .1);
     flushes = λ batch plan f a h′ made.
         let one = s .steps h k r (flushCall batch plan) a h′ made in
         rw (s .frees h k r) (c .flushes batch plan (rw (← e) f) a (one .0) (one .1));

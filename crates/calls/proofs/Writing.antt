@@ -1,6 +1,6 @@
--- Writing a block, as a flush and a collection do, keeps the invariant: what is written lies on the block's first pages, every
--- other logical page where it was. Assumes nothing.
-use mathlib.Core.Path.{_≡_, refl, _∙_, ap, subst}
+-- Writing a block, as a flush and a collection do, keeps the invariant where what is written isn't marked then: it lies on the
+-- block's first pages, every other logical page where it was. Assumes nothing.
+use mathlib.Core.Path.{_≡_, refl, sym, _∙_, ap, subst}
 use mathlib.Core.List.{List, [], _∷_}
 use mathlib.Core.Option.{Option, none, some}
 use mathlib.Core.Logic.{_≢_}
@@ -17,7 +17,8 @@ use Rattle.model.specs.Record.{Record}
 use Rattle.model.specs.Spare.{programBlock}
 use Rattle.model.specs.Learning.{Write, Run, logicals, learn, recordsFor}
 use Rattle.model.specs.Levels.{Group, listing, takeIn, takeInAll}
-use Rattle.model.specs.State.{State, withCounts, withGroups, groupAt}
+use Rattle.model.specs.Marks.{isMarked}
+use Rattle.model.specs.State.{State, withCounts, withMarks, withGroups, groupAt}
 use Rattle.model.specs.Sound.{soundState, soundGroups, soundRecord}
 use Rattle.model.proofs.Bools.{and-l, and-r, and-i, all-head, all-tail, all-cons}
 use Rattle.model.proofs.Lists.{elem-getD}
@@ -36,7 +37,7 @@ use Rattle.calls.specs.Flush.{writeState}
 use Rattle.calls.specs.PageMap.{spot}
 use Rattle.calls.proofs.Moves.{Writable}
 use Rattle.calls.proofs.Placing.{Spot, elsewhere, there, spot-view}
-use Rattle.calls.proofs.Invariant.{Lies, Inv, update, update-here, update-other, imaged-update}
+use Rattle.calls.proofs.Invariant.{Lies, lies-still, Inv, update, update-here, update-other, imaged-update}
 
 -- a count within the bound keeps all counts within it
 pub counts-set : (b : ℕ) (cs : List ℕ) (k n : ℕ) → n ≤ b → all (λ c. leb c b) cs ≡ true → all (λ c. leb c b) (set cs k n) ≡ true
@@ -50,8 +51,14 @@ sound-all-within : (N k : ℕ) (rs : List Record) → all (soundRecord N k) rs �
 sound-all-within N k [] h = tt
 sound-all-within N k (r ∷ rs) h = (sound-within N k r (all-head (soundRecord N k) r rs h), sound-all-within N k rs (all-tail (soundRecord N k) r rs h))
 
+-- The marks once these logical pages are written: theirs are cleared, every other is as it was.
+pub record Fresh (w marks ms : List ℕ) : Type 0 where
+  pub size : length ms ≡ length marks
+  pub kept : (x : ℕ) → elem x w ≡ false → isMarked ms x ≡ isMarked marks x
+  pub cleared : (x : ℕ) → elem x w ≡ true → isMarked ms x ≡ false
+
 module _ (s : State) (spare : List ℕ) (place : ℕ → Option ℕ) (v : Inv s spare place) (ws : List Write) (k : ℕ) (r : Writable (s .device) ws)
-    (block : k < s .device .M) (free : getD (s .counts) k 0 ≡ 0) where
+    (block : k < s .device .M) (free : getD (s .counts) k 0 ≡ 0) (ms : List ℕ) (fresh : Fresh (logicals ws) (s .marks) ms) where
   abbrev image : ℕ → List ℕ
   image = v .image
 
@@ -65,7 +72,7 @@ module _ (s : State) (spare : List ℕ) (place : ℕ → Option ℕ) (v : Inv s 
   runsOf = learn (s .device .g) first w
 
   abbrev afterWrite : State
-  afterWrite = writeState ws k s
+  afterWrite = writeState ws k (withMarks ms s)
 
   abbrev image′ : ℕ → List ℕ
   image′ = update k w image
@@ -89,7 +96,7 @@ module _ (s : State) (spare : List ℕ) (place : ℕ → Option ℕ) (v : Inv s 
 
   -- what is met afterwards, through the learned records
   met-after : (x : ℕ) → x < s .device .N → met (offsetOf x) (listing (groupAt afterWrite (groupOf x))) ≡ overlay (offsetOf x) (recordsFor (groupOf x) runsOf) (met (offsetOf x) (listing (groupAt s (groupOf x))))
-  unfolding writeState withGroups withCounts groupAt
+  unfolding writeState withGroups withCounts withMarks groupAt
   met-after x h =
       let g : Group = getD (s .groups) (groupOf x) [] in
       let inside : groupOf x < length (s .groups) = omega (arith, group-inside (s .device) x h, v .grouped) in
@@ -109,27 +116,13 @@ module _ (s : State) (spare : List ℕ) (place : ℕ → Option ℕ) (v : Inv s 
   other-block j i h e = absurd (omega (arith, was-empty, ap (λ (b : ℕ). length (image b)) e))
 
   lies-on : (x p : ℕ) → elem x w ≡ false → Lies s image x p → x < s .device .N → Lies afterWrite image′ x p
-  unfolding writeState withGroups withCounts
+  unfolding writeState withGroups withCounts withMarks groupAt
   lies-on x p n l h =
       let same : image′ (l .block) ≡ image (l .block) = update-other k w image (l .block) (other-block (l .block) (l .slot) (l .written)) in
-      record {
-        block = l .block;
-        slot = l .slot;
-        near = l .near;
-        line = l .line;
-        inside = l .inside;
-        page = l .page;
-        written = rw same (l .written);
-        carries = rw same (l .carries);
-        isMet = met-after x h ∙ learn-miss (s .device .g) first w (r .ascends) x n _ ∙ l .isMet;
-        predicts = l .predicts;
-        nearWritten = rw same (l .nearWritten);
-        above = l .above;
-        below = l .below;
-      }
+      lies-still s image x p l _ ms _ image′ same (met-after x h ∙ learn-miss (s .device .g) first w (r .ascends) x n _) (fresh .kept x n ∙ l .unmarked)
 
   lies-here : (i : ℕ) → i < length w → Lies afterWrite image′ (getD w i 0) (first + i)
-  unfolding writeState withGroups withCounts
+  unfolding writeState withGroups withCounts withMarks
   lies-here i b = go (learn-hit (s .device .g) first w (r .ascends) i b (met (offsetOf x) (listing (groupAt s (groupOf x)))))
     where
       x : ℕ
@@ -158,11 +151,12 @@ module _ (s : State) (spare : List ℕ) (place : ℕ → Option ℕ) (v : Inv s 
             nearWritten = rw here (omega (arith, h .to, h .from));
             above = omega (arith, h .above, h .from);
             below = omega (arith, h .below);
+            unmarked = fresh .cleared x (elem-getD w i b);
           }
 
   -- the state stays sound
   state-sound : soundState afterWrite ≡ true
-  unfolding soundState writeState withGroups withCounts
+  unfolding soundState writeState withGroups withCounts withMarks
   state-sound =
       and-i _ _
       (takeInAll-sound (s .device .N) 0 runsOf (s .groups) groups-were-sound learned-sound (λ j. omega (arith, recordsFor-length (s .device .g) first j w, fitsBlock, limits (s .device) (v .limits) .most-B)))
@@ -170,12 +164,13 @@ module _ (s : State) (spare : List ℕ) (place : ℕ → Option ℕ) (v : Inv s 
 
   -- Writing block k keeps the invariant.
   pub write-inv : Inv afterWrite (programBlock (s .device) w k spare) (λ x. spot x first w (place x))
-  unfolding writeState withGroups withCounts
+  unfolding writeState withGroups withCounts withMarks
   write-inv = record {
     image = image′;
     limits = v .limits;
     bytes = v .bytes;
     counted = length-set (s .counts) k (length ws) ∙ v .counted;
+    marked = fresh .size ∙ v .marked;
     grouped = takeInAll-length 0 runsOf (s .groups) ∙ v .grouped;
     spared = length-programBlock (s .device) w k spare ∙ v .spared;
     sound = state-sound;
@@ -192,6 +187,7 @@ module _ (s : State) (spare : List ℕ) (place : ℕ → Option ℕ) (v : Inv s 
           let q : first + i ≡ p = cc in
           subst (λ (y : ℕ). Lies afterWrite image′ x y) q (subst (λ (y : ℕ). Lies afterWrite image′ y (first + i)) c (lies-here i b))
 
-      unplaced-of : (x : ℕ) → x < s .device .N → (o : Option ℕ) → Spot x first w (place x) o → o ≡ none → met (offsetOf x) (listing (groupAt afterWrite (groupOf x))) ≡ none
-      unplaced-of x h o (elsewhere n) e = met-after x h ∙ learn-miss (s .device .g) first w (r .ascends) x n _ ∙ v .unplaced x h e
-      unplaced-of x h o (there i b c) e = let z : _≡_ {A = ℕ} 0 1 = cc in absurd (omega arith)
+      unplaced-of : (x : ℕ) → x < s .device .N → (o : Option ℕ) → Spot x first w (place x) o → o ≡ none → isMarked ms x ≡ false
+          → met (offsetOf x) (listing (groupAt afterWrite (groupOf x))) ≡ none
+      unplaced-of x h o (elsewhere n) e q = met-after x h ∙ learn-miss (s .device .g) first w (r .ascends) x n _ ∙ v .unplaced x h e (sym (fresh .kept x n) ∙ q)
+      unplaced-of x h o (there i b c) e q = let z : _≡_ {A = ℕ} 0 1 = cc in absurd (omega arith)

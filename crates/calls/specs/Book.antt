@@ -1,9 +1,9 @@
--- Document 01, 'The book': what each page carries, and the last write to each logical page. Assumes nothing.
+-- Document 01, 'The book': what each page carries, and the last write to each logical page; document 02, a: discards. Assumes nothing.
 use mathlib.Core.List.{List}
 use mathlib.Core.Option.{Option, none, some}
 use mathlib.Core.Bool.{Bool, true, false, _&&_}
 use Prim.Native.Nat.{ℕ, suc, _+_, _-_, _/_}
-use lib.Dec.{ltb, leb}
+use lib.Dec.{ltb, leb, eqb}
 use lib.ListN.{getD}
 use Rattle.model.specs.Lists.{elem}
 use Rattle.model.specs.Device.{Device}
@@ -14,15 +14,17 @@ pub record Arrival : Type 0 where
   pub call : ℕ
   pub index : ℕ
 
--- What befell a logical page last, since the last accepted format: nothing yet, or a write.
+-- What befell a logical page last, since the last accepted format: nothing yet, a write, or a discard.
 pub data Event : Type 0 where
   nothing : Event
   write : Arrival → Event
+  discard : Event
 
 -- the write that it is, if it is one
 unfoldable pub writeOf : Event → Option Arrival
 writeOf nothing = none
 writeOf (write w) = some w
+writeOf discard = none
 
 -- "For each page it holds what the page carries: a write .. or nothing." Beside it the last event of each logical page, the
 -- number of calls so far, and the device numbers that the last accepted format was given.
@@ -32,7 +34,7 @@ pub record Book : Type 0 where
   pub carried : ℕ → Option Arrival
   pub last : ℕ → Event
 
--- "The last write to a logical page"
+-- "The last write to a logical page": "'Last write' now means the later of write and discard", so there is none where that is a discard
 abbrev pub lastWrite : Book → ℕ → Option Arrival
 lastWrite b x = writeOf (b .last x)
 
@@ -42,10 +44,12 @@ blankBook = record { calls = 0; device = record { M = 0; B = 0; N = 0; g = 0 }; 
 
 -- What the book is fed of a call: "the calls' arguments and answers, plan and erased list included, and nothing from state or
 -- spare area". An accepted format with the device numbers it was given; an accepted flush with its batch, first page, count
--- and plan; an accepted collection with first page, count, plan and the erased blocks listed; any other call, or a refused one.
+-- and plan; an accepted discard with its logical page; an accepted collection with first page, count, plan and the erased blocks
+-- listed; any other call, or a refused one.
 pub data Entry : Type 0 where
   formatEntry : Device → Entry
   flushEntry : (batch : List ℕ) (first count : ℕ) (plan : List ℕ) → Entry
+  discardEntry : (page : ℕ) → Entry
   collectEntry : (first count : ℕ) (plan erased : List ℕ) → Entry
   noEntry : Entry
 
@@ -74,6 +78,10 @@ lastOr c (some i) old = write (record { call = c; index = i })
 unfoldable pub lastFlush : ℕ → List ℕ → (ℕ → Event) → ℕ → Event
 lastFlush c batch old x = lastOr c (latest x 0 batch) (old x)
 
+-- a discard of x is its last event
+unfoldable pub lastDiscard : ℕ → (ℕ → Event) → ℕ → Event
+lastDiscard x old y = elim (eqb y x) [ true ↦ discard | false ↦ old y ]
+
 -- the book after one more call
 unfoldable pub enter : Entry → Book → Book
 enter (formatEntry d) b = record { calls = suc (b .calls); device = d; carried = λ p. none; last = λ x. nothing }
@@ -83,6 +91,7 @@ enter (flushEntry batch p n plan) b = record {
   carried = carriedFlush (b .calls) p n plan (b .carried);
   last = lastFlush (b .calls) batch (b .last);
 }
+enter (discardEntry x) b = record { calls = suc (b .calls); device = b .device; carried = b .carried; last = lastDiscard x (b .last) }
 enter (collectEntry p n plan erased) b = record {
   calls = suc (b .calls);
   device = b .device;

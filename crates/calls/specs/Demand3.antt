@@ -2,7 +2,7 @@
 -- definitions, and the functions on lent bytes by their contracts (crates/history). Assumes nothing.
 use mathlib.Core.Path.{_≡_}
 use mathlib.Core.List.{List}
-use mathlib.Core.Option.{none, some}
+use mathlib.Core.Option.{some}
 use mathlib.Core.Logic.{_≢_, _⊎_}
 use mathlib.Core.Bool.{Bool, true, false}
 use Prim.Native.Nat.{ℕ, _≤_, _<_}
@@ -17,8 +17,9 @@ use Rattle.model.specs.Levels.{listing, holder}
 use Rattle.model.specs.State.{State, freeBlocks, groupAt}
 use Rattle.calls.specs.Refusals.{notSound, notNamed, noFreeBlock}
 use Rattle.calls.specs.Outcome.{Answer, found, notWritten, refused, accepted}
+use Rattle.calls.specs.Book as books
 use Rattle.calls.specs.Book.{Arrival, Book, lastWrite}
-use Rattle.calls.specs.History.{Call, formatCall, flushCall, lookupCall, collectCall, compactCall, agreeCall, listCall, run, Past, step}
+use Rattle.calls.specs.History.{Call, formatCall, flushCall, lookupCall, discardCall, collectCall, compactCall, agreeCall, listCall, run, Past, step}
 use Rattle.calls.specs.PageMap.{MapPast, MapMakes}
 
 -- A machine: its situations, each with the book so far and the number of free blocks; and what it does: a call made in a situation
@@ -45,8 +46,11 @@ definitions = record { Situation = Past; book = λ h. h .book; free = λ h. leng
 
 -- A lookup's answer for x is right by the book.
 pub data Right (b : Book) (x : ℕ) : Answer → Type 0 where
-  -- "or says 'not written', this exactly when there was no write since the last accepted format"
-  unwritten : (levels : ℕ) → lastWrite b x ≡ none → Right b x (notWritten levels)
+  -- "or says 'not written', this exactly when there was no write since the last accepted format": "'not written' stands exactly where
+  -- that is a discard or there is none"; where there is none, whatever the levels looked at ..
+  unwritten : (levels : ℕ) → b .last x ≡ books.nothing → Right b x (notWritten levels)
+  -- .. and where it is a discard, "lookup then says 'not written' with 0 levels looked at, until a flush writes it again"
+  discardedLast : b .last x ≡ books.discard → Right b x (notWritten 0)
   -- "finds the page that carries the last write to it, with one flash read where the prediction is right and two where it
   -- isn't": "its prediction is right where the predicted page carries the last write", which is exactly where it is the answered
   -- page, so that `reads` counts one there and two elsewhere
@@ -61,9 +65,11 @@ pub record Fits (d : Device) (batch plan : List ℕ) : Type 0 where
   pub logical : all (λ y. ltb y (d .N)) batch ≡ true
   pub planned : length plan ≡ d .B
 
--- "lookups, compactions and refused calls"; and agreements and listings, which write neither state nor spare area
+-- "lookups, compactions and refused calls"; "Discard joins .. the calls that may come between a refused flush and its repeat"; and
+-- agreements and listings, which write neither state nor spare area
 pub data Between : Call → Answer → Type 0 where
   aLookup : (x : ℕ) (a : Answer) → Between (lookupCall x) a
+  aDiscard : (x : ℕ) (a : Answer) → Between (discardCall x) a
   aCompaction : (k : ℕ) (a : Answer) → Between (compactCall k) a
   anAgreement : (s : State) (spare : List ℕ) (s′ : State) (spare′ : List ℕ) (a : Answer) → Between (agreeCall s spare s′ spare′) a
   aListing : (k : ℕ) (out : List ℕ) (a : Answer) → Between (listCall k out) a
@@ -74,6 +80,7 @@ unfoldable pub onDevice : Call → Bool
 onDevice (formatCall d) = true
 onDevice (flushCall batch plan) = true
 onDevice (lookupCall x) = true
+onDevice (discardCall x) = true
 onDevice (collectCall plan erased) = true
 onDevice (compactCall k) = true
 onDevice (agreeCall s spare s′ spare′) = false
@@ -91,7 +98,7 @@ module _ (m : Machine) where
     then : (h : m .Situation) (c : Call) (a : Answer) (h₁ h₂ : m .Situation) → Between c a → m .Makes h c a h₁ → Waits h₁ h₂ → Waits h h₂
 
   -- "For every list of these calls (format, flush, lookup, collection, compaction), refused ones included, that starts with an
-  -- accepted format, whatever its buffers held before": h is a situation that such a list leads to
+  -- accepted format, whatever its buffers held before", "Discard joins demand 3's list": h is a situation that such a list leads to
   pub record FromFormat (h : m .Situation) : Type 0 where
     pub start : m .Situation
     pub device : Device
@@ -106,7 +113,7 @@ module _ (m : Machine) where
     -- "The one collection .. is itself accepted if its plan and erased list have the right lengths"
     pub collection : (h₁ : m .Situation) → Waits h h₁ → (plan erased : List ℕ) → length plan ≡ d .B → length erased ≡ d .M
         → (a : Answer) (h₂ : m .Situation) → m .Makes h₁ (collectCall plan erased) a h₂ → accepted a ≡ true
-    -- "is accepted after one collection, whatever lookups, compactions and refused calls come between"
+    -- "is accepted after one collection, whatever lookups, compactions and refused calls come between", and discards
     pub again : (h₁ : m .Situation) → Waits h h₁ → (plan erased : List ℕ) → length plan ≡ d .B → length erased ≡ d .M
         → (a : Answer) (h₂ : m .Situation) → m .Makes h₁ (collectCall plan erased) a h₂
         → (h₃ : m .Situation) → Waits h₂ h₃ → (plan′ : List ℕ) → length plan′ ≡ d .B
@@ -121,6 +128,9 @@ module _ (m : Machine) where
     -- "the page that carries the last write": there is one
     pub only : (x p q : ℕ) (w : Arrival) → lastWrite (m .book h) x ≡ some w → m .book h .carried p ≡ some w
         → m .book h .carried q ≡ some w → p ≡ q
+    -- discard refuses "as lookup does", so that of every logical page below N is accepted too
+    pub discards : (x : ℕ) → x < m .book h .device .N
+        → (a : Answer) (h′ : m .Situation) → m .Makes h (discardCall x) a h′ → accepted a ≡ true
     -- a flush that fits is accepted; or it is refused 6, and then fewer than two blocks are free
     pub flushes : (batch plan : List ℕ) → Fits (m .book h .device) batch plan
         → (a : Answer) (h′ : m .Situation) → m .Makes h (flushCall batch plan) a h′

@@ -1,4 +1,4 @@
--- Document 01, 'Operations': flush. Assumes nothing.
+-- Document 01, 'Operations': flush; document 02, a: the marks that it clears. Assumes nothing.
 use mathlib.Core.List.{List, [], _∷_, _++_}
 use mathlib.Core.Bool.{not, _||_}
 use Prim.Native.Nat.{ℕ}
@@ -9,7 +9,8 @@ use Rattle.model.specs.Device.{Device, firstPage}
 use Rattle.model.specs.Spare.{programBlock}
 use Rattle.model.specs.Learning.{Write, sorted, logicals, sources, learn}
 use Rattle.model.specs.Levels.{takeInAll}
-use Rattle.model.specs.State.{State, withCounts, withGroups, freeBlocks, lowestFree}
+use Rattle.model.specs.Marks.{unmarkAll}
+use Rattle.model.specs.State.{State, withCounts, withMarks, withGroups, freeBlocks, lowestFree}
 use Rattle.model.specs.Sound.{soundState, isEmpty}
 use Rattle.calls.specs.Refusals.{Check, _when_, badLength, notSound, outOfRange, badBatch, noFreeBlock, wrongLength, openingWith}
 use Rattle.calls.specs.Outcome.{Lent, withState, withSpare, withPlan, Outcome, flushed}
@@ -41,10 +42,17 @@ writeBlock ws k x =
     (withSpare (programBlock (x .state .device) (logicals ws) k (x .spare))
     (withState (writeState ws k (x .state)) x))
 
+-- discarded "until a flush writes it again": the marks of the batch's logical pages are cleared
+unfoldable pub clearMarks : List ℕ → State → State
+clearMarks batch s = withMarks (unmarkAll batch (s .marks)) s
+
 -- "It answers first page and count, and writes into a plan .. for each page written, the arrival index": "from the start of
 -- the lowest-numbered free block"
 unfoldable pub flushDone : List ℕ → Lent → Outcome
 flushDone batch x =
     let k : ℕ = lowestFree (x .state) in
     let ws : List Write = sorted batch in
-    record { answer = flushed (firstPage (x .state .device) k) (length ws); after = writeBlock ws k x }
+    record {
+      answer = flushed (firstPage (x .state .device) k) (length ws);
+      after = writeBlock ws k (withState (clearMarks batch (x .state)) x);
+    }

@@ -1,9 +1,9 @@
--- Document 01, 'Operations': format. Assumes nothing.
+-- Document 01, 'Operations': format; document 02, a: its marks. Assumes nothing.
 use mathlib.Core.List.{List, [], _∷_}
 use mathlib.Core.Bool.{not}
 use lib.Dec.{eqb}
 use lib.ListN.{replicate}
-use Rattle.model.specs.Device.{Device, withinLimits, groupCount, spareLength, stateLength}
+use Rattle.model.specs.Device.{Device, withinLimits, marksCount, groupCount, spareLength, stateLength}
 use Rattle.model.specs.Spare.{nobody}
 use Rattle.model.specs.State.{State}
 use Rattle.calls.specs.Refusals.{Check, _when_, badNumbers, badLength, wrongLength}
@@ -18,9 +18,16 @@ formatChecks d x =
     ∷ badLength when wrongLength (x .spare) (spareLength d)
     ∷ []
 
--- "Format writes M, B, N, g, frees all blocks, empties all groups and fills every spare entry with 4,294,967,295."
+-- "Format writes M, B, N, g, frees all blocks, empties all groups and fills every spare entry with 4,294,967,295." "A format clears
+-- all marks."
 unfoldable pub blankState : Device → State
-blankState d = record { bytes = stateLength d; device = d; counts = replicate (d .M) 0; groups = replicate (groupCount d) [] }
+blankState d = record {
+  bytes = stateLength d;
+  device = d;
+  counts = replicate (d .M) 0;
+  marks = replicate (marksCount d) 0;
+  groups = replicate (groupCount d) [];
+}
 
 unfoldable pub formatDone : Device → Lent → Outcome
 formatDone d x = record { answer = formatted; after = withSpare (replicate (spareLength d) nobody) (withState (blankState d) x) }

@@ -11,11 +11,12 @@ use Rattle.calls.specs.Refusals.{Check}
 use Rattle.calls.specs.Format.{formatChecks, formatDone}
 use Rattle.calls.specs.Flush.{flushChecks, flushDone}
 use Rattle.calls.specs.Lookup.{lookupChecks, lookupDone}
+use Rattle.calls.specs.Discard.{discardChecks, discardDone}
 use Rattle.calls.specs.Collection.{collectChecks, collectDone}
 use Rattle.calls.specs.Compaction.{compactChecks, compactDone}
 use Rattle.calls.specs.Agreement.{agreeChecks, agreeDone}
 use Rattle.calls.specs.Listing.{listChecks, listDone}
-use Rattle.calls.specs.Book.{Book, Entry, formatEntry, flushEntry, collectEntry, noEntry, enter}
+use Rattle.calls.specs.Book.{Book, Entry, formatEntry, flushEntry, discardEntry, collectEntry, noEntry, enter}
 
 -- A call with its arguments and lent lists, state and spare area aside. "Calls that write neither of the two, such as
 -- agreement, may come anywhere in the list": agreement is of any two states, this one's or others'.
@@ -23,6 +24,7 @@ pub data Call : Type 0 where
   formatCall : Device → Call
   flushCall : (batch plan : List ℕ) → Call
   lookupCall : (page : ℕ) → Call
+  discardCall : (page : ℕ) → Call
   collectCall : (plan erased : List ℕ) → Call
   compactCall : (group : ℕ) → Call
   agreeCall : (first : State) (firstSpare : List ℕ) (second : State) (secondSpare : List ℕ) → Call
@@ -36,6 +38,7 @@ unfoldable pub lentTo : Call → State → List ℕ → Lent
 lentTo (formatCall d) s spare = lend s spare [] []
 lentTo (flushCall batch plan) s spare = lend s spare plan []
 lentTo (lookupCall x) s spare = lend s spare [] []
+lentTo (discardCall x) s spare = lend s spare [] []
 lentTo (collectCall plan erased) s spare = lend s spare plan erased
 lentTo (compactCall k) s spare = lend s spare [] []
 lentTo (agreeCall a sa b sb) s spare = lend s spare [] []
@@ -46,6 +49,7 @@ unfoldable pub checksOf : Call → Lent → List Check
 checksOf (formatCall d) x = formatChecks d x
 checksOf (flushCall batch _) x = flushChecks batch x
 checksOf (lookupCall y) x = lookupChecks y x
+checksOf (discardCall y) x = discardChecks y x
 checksOf (collectCall _ _) x = collectChecks x
 checksOf (compactCall k) x = compactChecks k x
 checksOf (agreeCall a sa b sb) x = agreeChecks a sa b sb
@@ -56,6 +60,7 @@ unfoldable pub effect : Call → Lent → Outcome
 effect (formatCall d) x = formatDone d x
 effect (flushCall batch _) x = flushDone batch x
 effect (lookupCall y) x = lookupDone y x
+effect (discardCall y) x = discardDone y x
 effect (collectCall _ _) x = collectDone x
 effect (compactCall k) x = compactDone k x
 effect (agreeCall a sa b sb) x = agreeDone a sa b sb x
@@ -74,6 +79,7 @@ unfoldable pub acceptedEntry : Call → Answer → List ℕ → List ℕ → Ent
 acceptedEntry (formatCall d) a plan erased = formatEntry d
 acceptedEntry (flushCall batch _) a plan erased = flushEntry batch (value a 0) (value a 1) plan
 acceptedEntry (lookupCall x) a plan erased = noEntry
+acceptedEntry (discardCall x) a plan erased = discardEntry x
 acceptedEntry (collectCall _ _) a plan erased = collectEntry (value a 0) (value a 1) plan (take (value a 2) erased)
 acceptedEntry (compactCall k) a plan erased = noEntry
 acceptedEntry (agreeCall _ _ _ _) a plan erased = noEntry

@@ -3,6 +3,7 @@ pub mod Outcome
 pub mod Format
 pub mod Flush
 pub mod Lookup
+pub mod Discard
 pub mod Choice
 pub mod Ranked
 pub mod Collection
@@ -11,6 +12,7 @@ pub mod Agreement
 pub mod Listing
 pub mod Book
 pub mod History
+pub mod Marked
 pub mod Alike
 pub mod Bounds
 pub mod PageMap

@@ -1,4 +1,4 @@
--- Document 01, 'Operations': lookup. Assumes nothing.
+-- Document 01, 'Operations': lookup; document 02, a: of a discarded logical page. Assumes nothing.
 use mathlib.Core.List.{List, [], _∷_, _++_}
 use mathlib.Core.Option.{Option, none, some}
 use mathlib.Core.Bool.{true, false, not}
@@ -9,6 +9,7 @@ use Rattle.model.specs.Device.{Device, pages, groupOf, offsetOf}
 use Rattle.model.specs.Record.{Record, predict}
 use Rattle.model.specs.Spare.{pageNamed}
 use Rattle.model.specs.Levels.{Group, listing, holder, levelsTo}
+use Rattle.model.specs.Marks.{isMarked}
 use Rattle.model.specs.State.{State, groupAt}
 use Rattle.model.specs.Sound.{soundGroup}
 use Rattle.calls.specs.Refusals.{Check, _when_, notSound, outOfRange, notNamed, openingWith}
@@ -36,10 +37,14 @@ lookedBy d spare x n none = nowhere n
 lookedBy d spare x n (some r) = lookedAt d spare x n (predict r (offsetOf x))
 
 -- "Lookup goes down the levels to the first record having the offset as a member."
-unfoldable pub seek : State → List ℕ → ℕ → Looked
-seek s spare x =
+unfoldable pub descend : State → List ℕ → ℕ → Looked
+descend s spare x =
     let g : Group = groupAt s (groupOf x) in
     lookedBy (s .device) spare x (levelsTo (offsetOf x) g) (holder (offsetOf x) (listing g))
+
+-- of a discarded page "lookup then says 'not written' with 0 levels looked at": its records, which stay, are not looked at
+unfoldable pub seek : State → List ℕ → ℕ → Looked
+seek s spare x = elim (isMarked (s .marks) x) [ true ↦ nowhere 0 | false ↦ descend s spare x ]
 
 unfoldable pub answerOf : Looked → Answer
 answerOf (at p q n) = found p q n

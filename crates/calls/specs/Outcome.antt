@@ -32,13 +32,14 @@ abbrev pub withOut : List ℕ → Lent → Lent
 withOut l x = record { state = x .state; spare = x .spare; plan = x .plan; erased = x .erased; out = l }
 
 -- The answers. Format: accepted. Flush: first page and count. Lookup: the page, the predicted page and how many levels were
--- looked at, or 'not written' with the number of levels. Collection: first page, count and number erased. Compaction: the
--- records left. Agreement: yes or no. Listing: the records listed. Any call: refused.
+-- looked at, or 'not written' with the number of levels. Discard: accepted. Collection: first page, count and number erased.
+-- Compaction: the records left. Agreement: yes or no. Listing: the records listed. Any call: refused.
 pub data Answer : Type 0 where
   formatted : Answer
   flushed : (first count : ℕ) → Answer
   found : (page predicted levels : ℕ) → Answer
   notWritten : (levels : ℕ) → Answer
+  discarded : Answer
   collected : (first count erased : ℕ) → Answer
   compacted : (left : ℕ) → Answer
   agreed : Bool → Answer
@@ -51,6 +52,7 @@ number formatted = 0
 number (flushed p n) = 0
 number (found p q n) = 0
 number (notWritten n) = 0
+number discarded = 0
 number (collected p n e) = 0
 number (compacted n) = 0
 number (agreed t) = 0
@@ -62,6 +64,7 @@ accepted formatted = true
 accepted (flushed p n) = true
 accepted (found p q n) = true
 accepted (notWritten n) = true
+accepted discarded = true
 accepted (collected p n e) = true
 accepted (compacted n) = true
 accepted (agreed t) = true
@@ -74,6 +77,7 @@ values formatted = []
 values (flushed p n) = p ∷ n ∷ []
 values (found p q n) = p ∷ q ∷ n ∷ []
 values (notWritten n) = n ∷ []
+values discarded = []
 values (collected p n e) = p ∷ n ∷ e ∷ []
 values (compacted n) = n ∷ []
 values (agreed true) = 1 ∷ []

@@ -1,6 +1,6 @@
--- The page map: document 01's device without records and spare area. For each logical page the page that it lies on, if any, and
--- the block counts; its calls answer all that needs neither records nor spare area: pages, plans, erased lists, refusals but 3 and
--- 7. Demand 3 is proved of it first. Assumes nothing.
+-- The page map: document 01's device, with document 02's discard, without records and spare area. For each logical page the page that it
+-- lies on, if any, and whether it is discarded; and the block counts. Its calls answer all that needs neither records nor spare area:
+-- pages, plans, erased lists, refusals but 3 and 7. Demand 3 is proved of it first. Assumes nothing.
 use mathlib.Core.Path.{_≡_}
 use mathlib.Core.List.{List, [], _∷_}
 use mathlib.Core.Option.{Option, none, some}
@@ -8,22 +8,23 @@ use mathlib.Core.Bool.{Bool, true, false, not, _&&_, _||_}
 use Prim.Native.Nat.{ℕ, zero, suc}
 use lib.Dec.{ltb, leb, eqb}
 use lib.ListN.{length, set, replicate}
-use Rattle.model.specs.Lists.{all, store, orElse}
+use Rattle.model.specs.Lists.{all, elem, store, orElse}
 use Rattle.model.specs.Device.{Device, withinLimits, firstPage, groupCount}
 use Rattle.model.specs.Learning.{Write, sorted, logicals, sources}
 use Rattle.model.specs.State.{State, freeBlocks, lowestIn}
 use Rattle.model.specs.Sound.{isEmpty}
 use Rattle.calls.specs.Refusals.{Refusal, Check, _when_, firstRefusal, badNumbers, badLength, outOfRange, badBatch, noFreeBlock, nothingToGain, wrongLength}
-use Rattle.calls.specs.Outcome.{Answer, formatted, flushed, found, notWritten, collected, compacted, agreed, listed, refused}
+use Rattle.calls.specs.Outcome.{Answer, formatted, flushed, found, notWritten, discarded, collected, compacted, agreed, listed, refused}
 use Rattle.calls.specs.Choice.{Used, victimsBy, blocksOf, movesBy, firstOf, noGain}
 use Rattle.calls.specs.Listing.{listingLength}
 use Rattle.calls.specs.Book.{Book, noEntry, enter}
-use Rattle.calls.specs.History.{Call, formatCall, flushCall, lookupCall, collectCall, compactCall, agreeCall, listCall, entryOf}
+use Rattle.calls.specs.History.{Call, formatCall, flushCall, lookupCall, discardCall, collectCall, compactCall, agreeCall, listCall, entryOf}
 
 pub record PageMap : Type 0 where
   pub device : Device
   pub counts : List ℕ
   pub place : ℕ → Option ℕ
+  pub discarded : ℕ → Bool
 
 -- where logical page x lies when the pages l were written from page p on: there, or else where it lay
 unfoldable pub spot : ℕ → ℕ → List ℕ → Option ℕ → Option ℕ
@@ -68,6 +69,23 @@ mapWrite ws m = record {
   device = m .device;
   counts = writeCounts ws (m .counts);
   place = λ x. spot x (firstOf ws (m .device) (m .counts)) (logicals ws) (m .place x);
+  discarded = m .discarded;
+}
+
+-- the map with these logical pages no longer discarded: "until a flush writes it again"
+unfoldable pub mapClear : List ℕ → PageMap → PageMap
+mapClear batch m = record { device = m .device; counts = m .counts; place = m .place; discarded = λ x. m .discarded x && not (elem x batch) }
+
+-- the map with x discarded: it lies nowhere
+unfoldable pub placeDiscard : ℕ → (ℕ → Option ℕ) → ℕ → Option ℕ
+placeDiscard x place y = elim (eqb y x) [ true ↦ none | false ↦ place y ]
+
+unfoldable pub mapDiscard : ℕ → PageMap → PageMap
+mapDiscard x m = record {
+  device = m .device;
+  counts = m .counts;
+  place = placeDiscard x (m .place);
+  discarded = λ y. eqb y x || m .discarded y;
 }
 
 -- counts with these blocks erased
@@ -76,10 +94,10 @@ clearCounts [] counts = counts
 clearCounts (k ∷ ks) counts = clearCounts ks (set counts k 0)
 
 unfoldable pub mapErase : List ℕ → PageMap → PageMap
-mapErase ks m = record { device = m .device; counts = clearCounts ks (m .counts); place = m .place }
+mapErase ks m = record { device = m .device; counts = clearCounts ks (m .counts); place = m .place; discarded = m .discarded }
 
 unfoldable pub blankMap : Device → PageMap
-blankMap d = record { device = d; counts = replicate (d .M) 0; place = λ x. none }
+blankMap d = record { device = d; counts = replicate (d .M) 0; place = λ x. none; discarded = λ x. false }
 
 -- A call's refusals, in document 01's order. Whether state and spare area have the lengths that a format's numbers give is told:
 -- the map has neither.
@@ -92,6 +110,7 @@ mapChecks sized (flushCall batch plan) m =
     ∷ noFreeBlock when ltb (length (freeBlocks 0 (m .counts))) 2
     ∷ []
 mapChecks sized (lookupCall x) m = outOfRange when leb (m .device .N) x ∷ []
+mapChecks sized (discardCall x) m = outOfRange when leb (m .device .N) x ∷ []
 mapChecks sized (collectCall plan erased) m =
     badLength when wrongLength plan (m .device .B)
     ∷ badLength when wrongLength erased (m .device .M)
@@ -102,14 +121,17 @@ mapChecks sized (compactCall k) m = outOfRange when leb (groupCount (m .device))
 mapChecks sized (agreeCall _ _ _ _) m = []
 mapChecks sized (listCall k out) m = badLength when wrongLength out listingLength ∷ outOfRange when leb (groupCount (m .device)) k ∷ []
 
--- What an accepted call answers: all that needs no records. A lookup's predicted page and number of levels, a compaction's records
--- left, a listing's number of records, and an agreement's yes or no, of two states that the map doesn't know, may be any.
+-- What an accepted call answers: all that needs no records. A lookup's predicted page and number of levels (0 of a discarded page), a
+-- compaction's records left, a listing's number of records, and an agreement's yes or no, of two states that the map doesn't know, may
+-- be any.
 pub data MapAnswers (m : PageMap) : Call → Answer → Type 0 where
   formats : (d : Device) → MapAnswers m (formatCall d) formatted
   flushes : (batch plan : List ℕ)
       → MapAnswers m (flushCall batch plan) (flushed (firstPage (m .device) (lowestIn (m .counts))) (length (sorted batch)))
   finds : (x page predicted levels : ℕ) → m .place x ≡ some page → MapAnswers m (lookupCall x) (found page predicted levels)
-  misses : (x levels : ℕ) → m .place x ≡ none → MapAnswers m (lookupCall x) (notWritten levels)
+  misses : (x levels : ℕ) → m .place x ≡ none → m .discarded x ≡ false → MapAnswers m (lookupCall x) (notWritten levels)
+  skips : (x : ℕ) → m .discarded x ≡ true → MapAnswers m (lookupCall x) (notWritten 0)
+  discards : (x : ℕ) → MapAnswers m (discardCall x) discarded
   collects : (plan erased : List ℕ)
       → MapAnswers m (collectCall plan erased) (collected (firstOf (mapMoves m) (m .device) (m .counts)) (length (mapMoves m)) (length (blocksOf (mapVictims m))))
   compacts : (k left : ℕ) → MapAnswers m (compactCall k) (compacted left)
@@ -128,8 +150,9 @@ noLists m = record { map = m; plan = []; erased = [] }
 
 unfoldable pub mapDone : Call → PageMap → MapLeft
 mapDone (formatCall d) m = noLists (blankMap d)
-mapDone (flushCall batch plan) m = record { map = mapWrite (sorted batch) m; plan = store plan 0 (sources (sorted batch)); erased = [] }
+mapDone (flushCall batch plan) m = record { map = mapWrite (sorted batch) (mapClear batch m); plan = store plan 0 (sources (sorted batch)); erased = [] }
 mapDone (lookupCall x) m = noLists m
+mapDone (discardCall x) m = noLists (mapDiscard x m)
 mapDone (collectCall plan erased) m = record {
   map = mapErase (blocksOf (mapVictims m)) (mapWrite (mapMoves m) m);
   plan = store plan 0 (sources (mapMoves m));

@@ -1,25 +1,30 @@
--- Document 01, 'Tight promises' 3: each sham is rejected by the demand that the document names, for the demand asked of it is absurd.
--- Assumes nothing.
+-- Document 01, 'Tight promises' 3: each sham is rejected by the demand that the document names, for the demand asked of it is absurd; and
+-- so are those that document 02's discard tempts to. Assumes nothing.
 use mathlib.Core.Path.{_≡_, refl, sym, _∙_, ap, subst}
-use mathlib.Core.List.{List, [], _∷_}
+use mathlib.Core.List.{List, [], _∷_, _++_}
 use mathlib.Core.Option.{Option, none, some}
 use mathlib.Core.Logic.{_⊎_, inl, inr}
 use mathlib.Core.Bool.{true, false≢true}
-use Prim.Native.Nat.{ℕ, _<_}
+use Prim.Native.Nat.{ℕ, suc, _<_}
 use native.Mathlib.Omega.{arith}
 use lib.ListN.{replicate}
 use Rattle.model.specs.Demand2.{readAt, readBy, readBack}
-use Rattle.calls.specs.Refusals.{Refusal, noFreeBlock, notNamed, nothingToGain}
+use Rattle.calls.specs.Refusals.{Refusal, outOfRange, noFreeBlock, notNamed, nothingToGain}
 use Rattle.calls.specs.Outcome.{Answer, flushed, found, notWritten, collected, refused, accepted, Outcome}
-use Rattle.calls.specs.Book.{Arrival, Book, lastWrite}
+use Rattle.calls.specs.Book.{Arrival, nothing, discard, writeOf, Book, lastWrite}
 use Rattle.calls.specs.History.{Call, lookupCall, run}
-use Rattle.calls.specs.Demand3.{Right, unwritten, AfterFormat}
+use Rattle.calls.specs.Demand3.{Right, unwritten, discardedLast, written, AfterFormat}
+use Rattle.calls.proofs.Refusing.{none-some}
 use Rattle.cases.specs.Small.{small}
 use Rattle.cases.specs.Ways.{Way, Demand1, Demand2, machine, after}
-use Rattle.cases.specs.Shams.{alwaysUnwritten, storesNoRecord, movesFirstOnly, refusesFlushes, learnFirst, countsOneLevelMore, newDeviceFull, gainUncounted, answerBy, flushOf, collection, collected01, shams, threePages}
+use Rattle.cases.specs.Shams.{alwaysUnwritten, storesNoRecord, movesFirstOnly, refusesFlushes, learnFirst, countsOneLevelMore, newDeviceFull, gainUncounted, marksNothing, refusesDiscards, leavesMark, countsLevels, copiesDiscarded, answerBy, flushOf, collection, collected01, discarded0, shams, threePages}
 use Rattle.cases.proofs.Ways.{from-format}
 
--- DEMAND 3, of the first four as machines.
+-- DEMAND 3, of the first four as machines, and of the first four of discard.
+
+-- a discard is an event
+discard-happened : nothing ≡ discard → ⊥
+discard-happened e = let z : _≡_ {A = ℕ} 0 1 = cc in absurd (omega arith)
 
 -- a lookup that isn't right by the book refutes a way
 wrong-lookup : (w : Way) (cs : List Call) (x : ℕ) (a : Answer) → answerBy w cs (lookupCall x) ≡ a → x < after w cs .book .device .N
@@ -30,7 +35,18 @@ wrong-lookup w cs x a e n wrong demand =
 
 -- 'not written' isn't, of a page that was written; nor is a refusal
 unwritten-wrong : (b : Book) (x n : ℕ) (w : Arrival) → lastWrite b x ≡ some w → Right b x (notWritten n) → ⊥
-unwritten-wrong b x n w e (unwritten _ u) = let z : _≡_ {A = ℕ} 0 1 = cc in absurd (omega arith)
+unfolding writeOf
+unwritten-wrong b x n w e (unwritten _ u) = none-some (ap writeOf (sym u) ∙ e)
+unwritten-wrong b x n w e (discardedLast u) = none-some (ap writeOf (sym u) ∙ e)
+
+-- nor is any page, or more levels than 0, of one that was discarded
+found-wrong : (b : Book) (x p q n : ℕ) → b .last x ≡ discard → Right b x (found p q n) → ⊥
+unfolding writeOf
+found-wrong b x p q n e (written _ _ _ w u _ _ _) = none-some (ap writeOf (sym e) ∙ u)
+
+levels-wrong : (b : Book) (x n : ℕ) → b .last x ≡ discard → Right b x (notWritten (suc n)) → ⊥
+unfolding writeOf
+levels-wrong b x n e (unwritten _ u) = discard-happened (sym u ∙ e)
 
 refused-wrong : (b : Book) (x : ℕ) (r : Refusal) → Right b x (refused r) → ⊥
 refused-wrong b x r = elim [ ]
@@ -60,6 +76,25 @@ refusal-rejected demand =
     go (inl e) = false≢true e
     go (inr p) = omega (arith, p .1)
 
+pub no-mark-rejected : AfterFormat (machine marksNothing) → ⊥
+unfolding shams
+no-mark-rejected = wrong-lookup marksNothing discarded0 0 (found 0 0 1) refl (omega arith) (found-wrong _ 0 0 0 1 refl)
+
+pub refused-discard-rejected : AfterFormat (machine refusesDiscards) → ⊥
+unfolding shams
+refused-discard-rejected demand =
+    false≢true (demand (after refusesDiscards (flushOf 0 ∷ [])) (from-format refusesDiscards (flushOf 0 ∷ [])) .discards 0 (omega arith) (refused outOfRange) _
+    (record { answered = refl; left = refl }))
+
+pub left-mark-rejected : AfterFormat (machine leavesMark) → ⊥
+unfolding shams
+left-mark-rejected =
+    wrong-lookup leavesMark (discarded0 ++ (flushOf 0 ∷ [])) 0 (notWritten 0) refl (omega arith) (unwritten-wrong _ 0 0 (record { call = 3; index = 0 }) refl)
+
+pub levels-rejected : AfterFormat (machine countsLevels) → ⊥
+unfolding shams
+levels-rejected = wrong-lookup countsLevels discarded0 0 (notWritten 1) refl (omega arith) (levels-wrong _ 0 0 refl)
+
 -- DEMAND 2, of the fifth: logical page 3 is not read back.
 pub first-run-rejected : Demand2 learnFirst → ⊥
 unfolding shams readAt readBy readBack
@@ -82,6 +117,11 @@ level-count-rejected = differs countsOneLevelMore (flushOf 0 ∷ []) (lookupCall
 pub new-device-rejected : Demand1 newDeviceFull → ⊥
 unfolding shams
 new-device-rejected = differs newDeviceFull [] (flushOf 0) (refused noFreeBlock) (flushed 0 1) refl refl (λ e. let z : _≡_ {A = ℕ} 0 1 = cc in absurd (omega arith))
+
+pub copied-discarded-rejected : Demand1 copiesDiscarded → ⊥
+unfolding shams
+copied-discarded-rejected =
+    differs copiesDiscarded (discarded0 ++ (flushOf 1 ∷ [])) collection (collected 8 2 2) (collected 8 1 2) refl refl (λ e. let z : _≡_ {A = ℕ} 2 1 = cc in absurd (omega arith))
 
 pub uncounted-rejected : Demand1 gainUncounted → ⊥
 unfolding shams

@@ -2,27 +2,29 @@
 use Prim.Native.Nat.{ℕ}
 use mathlib.Core.List.{flatten}
 use Rattle.model.specs.Lists.{all, elem, distinct, ascending, lastOf, select, store, orElse}
-use Rattle.model.specs.Device.{withinLimits, pages, firstPage, groupCount, namesPerPage, entriesPerPage, entriesPerBlock, spareLength, headLength, countLength, groupLength, regions, regionsLength, stateLength}
+use Rattle.model.specs.Device.{withinLimits, pages, firstPage, groupCount, marksCount, namesPerPage, entriesPerPage, entriesPerBlock, spareLength, headLength, countLength, marksLength, groupLength, regions, regionsLength, stateLength}
 use Rattle.model.specs.Record.{kindOf, isApproximate, covers, memberAs, member, rise, predict}
 use Rattle.model.specs.Spare.{entry, middle, entryRule, ruledEntries, erase, programPage, programPages, programBlock, names, lowestNaming, pageNamed}
 use Rattle.model.specs.Learning.{place, sort, arrivals, sorted, later, latest, logicals, sources, strideLength, accurateRun, suiting, common, longer, extend, fit, better, bestFit, approximateRecord, approximateRun, longerRun, nextRun, ahead, runs, learn, recordsFor}
 use Rattle.model.specs.Levels.{recordCount, meets, meetsAny, shrunkTo, shrunkToAny, shrink, keep, giveUp, giveUpAll, filled, into, fateLeft, fate, staying, sinking, stayers, sinkers, sink, sinkAll, insertTop, insert, insertAll, memberOfAny, shrinkAll, depthOver, depth, putAt, putBack, compact, takeIn, takeInAll, holder, levelsTo}
-use Rattle.model.specs.State.{withCounts, withGroups, groupAt, freeBlocks, usedBlocks, lowestIn}
+use Rattle.model.specs.Marks.{markByte, markValue, hasBit, setBit, clearBit, isMarked, mark, unmark, unmarkAll}
+use Rattle.model.specs.State.{withCounts, withMarks, withGroups, groupAt, freeBlocks, usedBlocks, lowestIn}
 use Rattle.model.specs.Sound.{isEmpty, isFilled, ownsItsEnds, soundAs, soundRecord, ordered, ownedOffsets, soundGroup, soundGroups, soundState}
 use Rattle.calls.specs.Refusals.{refusalNumber, firstRefusal, wrongLength, numbersMissing, wrongState, wrongSpare}
 use Rattle.calls.specs.Outcome.{number, accepted, values, outcome, unless}
 use Rattle.calls.specs.Format.{formatChecks, blankState, formatDone}
-use Rattle.calls.specs.Flush.{flushChecks, writeState, writeBlock, flushDone}
-use Rattle.calls.specs.Lookup.{lookedNamed, lookedAt, lookedBy, seek, answerOf, lookupChecks, lookupDone, reads}
+use Rattle.calls.specs.Flush.{flushChecks, writeState, writeBlock, clearMarks, flushDone}
+use Rattle.calls.specs.Lookup.{lookedNamed, lookedAt, lookedBy, descend, seek, answerOf, lookupChecks, lookupDone, reads}
+use Rattle.calls.specs.Discard.{discardPage, discardDone}
 use Rattle.calls.specs.Choice.{usedBy, rank, ranked, takeWhile, victimsBy, blocksOf, pagesOf, copyBy, movesBy, firstOf, noGain}
 use Rattle.calls.specs.Collection.{gives, valid, collectChecks, moveAll, eraseBlock, eraseBlocks, listErased, collectDone}
 use Rattle.calls.specs.Compaction.{compactChecks, compactGroup, compactDone}
 use Rattle.calls.specs.Agreement.{eachBelow, isNowhere, isNamed, alike, allNamed, agreeChecks, agrees, agreeDone}
 use Rattle.calls.specs.Listing.{recordBytes, levelBytes, groupBytes, listChecks, listDone}
-use Rattle.calls.specs.Book.{writeOf, blankBook, among, carriedFlush, carriedCopy, carriedErased, lastOr, lastFlush, enter}
+use Rattle.calls.specs.Book.{writeOf, blankBook, among, carriedFlush, carriedCopy, carriedErased, lastOr, lastFlush, lastDiscard, enter}
 use Rattle.calls.specs.History.{lend, lentTo, checksOf, effect, run, value, acceptedEntry, entryOf, pastAfter, step, steps}
 use Rattle.cases.specs.Shown.{rowOf, learned, predictedBy, predicted, planned, showOutcome, called, lookups}
 
 unfoldable pub everything : ℕ
-unfolding flatten all elem distinct ascending lastOf select store orElse withinLimits pages firstPage groupCount namesPerPage entriesPerPage entriesPerBlock spareLength headLength countLength groupLength regions regionsLength stateLength kindOf isApproximate covers memberAs member rise predict entry middle entryRule ruledEntries erase programPage programPages programBlock names lowestNaming pageNamed place sort arrivals sorted later latest logicals sources strideLength accurateRun suiting common longer extend fit better bestFit approximateRecord approximateRun longerRun nextRun ahead runs learn recordsFor recordCount meets meetsAny shrunkTo shrunkToAny shrink keep giveUp giveUpAll filled into fateLeft fate staying sinking stayers sinkers sink sinkAll insertTop insert insertAll memberOfAny shrinkAll depthOver depth putAt putBack compact takeIn takeInAll holder levelsTo withCounts withGroups groupAt freeBlocks usedBlocks lowestIn isEmpty isFilled ownsItsEnds soundAs soundRecord ordered ownedOffsets soundGroup soundGroups soundState refusalNumber firstRefusal wrongLength numbersMissing wrongState wrongSpare number accepted values outcome unless formatChecks blankState formatDone flushChecks writeState writeBlock flushDone lookedNamed lookedAt lookedBy seek answerOf lookupChecks lookupDone reads gives valid usedBy rank ranked takeWhile victimsBy blocksOf pagesOf copyBy movesBy firstOf noGain collectChecks moveAll eraseBlock eraseBlocks listErased collectDone compactChecks compactGroup compactDone eachBelow isNowhere isNamed alike allNamed agreeChecks agrees agreeDone recordBytes levelBytes groupBytes listChecks listDone writeOf blankBook among carriedFlush carriedCopy carriedErased lastOr lastFlush enter lend lentTo checksOf effect run value acceptedEntry entryOf pastAfter step steps rowOf learned predictedBy predicted planned showOutcome called lookups
+unfolding flatten all elem distinct ascending lastOf select store orElse withinLimits pages firstPage groupCount marksCount namesPerPage entriesPerPage entriesPerBlock spareLength headLength countLength marksLength groupLength regions regionsLength stateLength kindOf isApproximate covers memberAs member rise predict entry middle entryRule ruledEntries erase programPage programPages programBlock names lowestNaming pageNamed place sort arrivals sorted later latest logicals sources strideLength accurateRun suiting common longer extend fit better bestFit approximateRecord approximateRun longerRun nextRun ahead runs learn recordsFor recordCount meets meetsAny shrunkTo shrunkToAny shrink keep giveUp giveUpAll filled into fateLeft fate staying sinking stayers sinkers sink sinkAll insertTop insert insertAll memberOfAny shrinkAll depthOver depth putAt putBack compact takeIn takeInAll holder levelsTo markByte markValue hasBit setBit clearBit isMarked mark unmark unmarkAll withCounts withMarks withGroups groupAt freeBlocks usedBlocks lowestIn isEmpty isFilled ownsItsEnds soundAs soundRecord ordered ownedOffsets soundGroup soundGroups soundState refusalNumber firstRefusal wrongLength numbersMissing wrongState wrongSpare number accepted values outcome unless formatChecks blankState formatDone flushChecks writeState writeBlock clearMarks flushDone lookedNamed lookedAt lookedBy descend seek answerOf lookupChecks lookupDone reads discardPage discardDone gives valid usedBy rank ranked takeWhile victimsBy blocksOf pagesOf copyBy movesBy firstOf noGain collectChecks moveAll eraseBlock eraseBlocks listErased collectDone compactChecks compactGroup compactDone eachBelow isNowhere isNamed alike allNamed agreeChecks agrees agreeDone recordBytes levelBytes groupBytes listChecks listDone writeOf blankBook among carriedFlush carriedCopy carriedErased lastOr lastFlush lastDiscard enter lend lentTo checksOf effect run value acceptedEntry entryOf pastAfter step steps rowOf learned predictedBy predicted planned showOutcome called lookups
 everything = 0

@@ -1,5 +1,5 @@
--- Document 01, 'Operations, each with its refusals in order': each refusal of each call, met on the smallest device, has the document's
--- number, and where two apply it is the first; and what agreement says. Assumes nothing.
+-- Document 01, 'Operations, each with its refusals in order', with document 02's discard: each refusal of each call, met on the smallest
+-- device, has the document's number, and where two apply it is the first; and what agreement says. Assumes nothing.
 use mathlib.Core.Path.{_≡_, refl}
 use mathlib.Core.List.{List, [], _∷_, map}
 use mathlib.Core.Bool.{true, false}
@@ -12,7 +12,7 @@ use Rattle.model.specs.Levels.{Group}
 use Rattle.model.specs.State.{withCounts, withGroups}
 use Rattle.calls.specs.Outcome.{Answer, agreed, number}
 use Rattle.calls.specs.Demand3.{agreementOf}
-use Rattle.calls.specs.History.{Call, formatCall, flushCall, lookupCall, collectCall, compactCall, listCall, run, Past, steps}
+use Rattle.calls.specs.History.{Call, formatCall, flushCall, lookupCall, discardCall, collectCall, compactCall, listCall, run, Past, step, steps}
 use Rattle.cases.specs.Small.{small, unformatted, flushOn, collectOn}
 use Rattle.cases.specs.Opens.{everything}
 
@@ -26,7 +26,7 @@ new = formattedThen small []
 -- The same with another length of the state and other device numbers in it; with another group, counts, spare area.
 sized : ℕ → Device → Past → Past
 sized n d h = record {
-  state = record { bytes = n; device = d; counts = h .state .counts; groups = h .state .groups };
+  state = record { bytes = n; device = d; counts = h .state .counts; marks = h .state .marks; groups = h .state .groups };
   spare = h .spare;
   book = h .book;
 }
@@ -44,16 +44,16 @@ spared l h = record { state = h .state; spare = l; book = h .book }
 single : ℕ → Record
 single p = record { start = 0; span = 0; word = 0; intercept = pos p; owned = [] }
 
--- "1 when the state is too short to hold the device numbers or they are outside limits"; its length is 16 + 3 × 2 + 5,636 = 5,658
+-- "1 when the state is too short to hold the device numbers or they are outside limits"; its length is 16 + 3 × 2 + 1 + 5,636 = 5,659
 tooShort : Past
 tooShort = sized 15 small new
 
 outside : Past
-outside = sized 5658 (record { M = 2; B = 4; N = 4; g = 0 }) new
+outside = sized 5659 (record { M = 2; B = 4; N = 4; g = 0 }) new
 
 -- "2 when a lent slice has a wrong length": one byte more, one spare entry more than 3 × 4
 longState : Past
-longState = sized 5659 small new
+longState = sized 5660 small new
 
 longSpare : Past
 longSpare = spared (replicate 13 0) new
@@ -71,6 +71,10 @@ noSuchPage = grouped ((single 12 ∷ []) ∷ []) new
 
 notNamedThere : Past
 notNamedThere = grouped ((single 0 ∷ []) ∷ []) new
+
+-- "lookup then says 'not written'": of a discarded page no record is looked at
+discardedThere : Past
+discardedThere = step (discardCall 0) notNamedThere
 
 -- "6, fewer than two free blocks"
 full : Past
@@ -131,10 +135,22 @@ given =
     ∷ refusedBy (lookupCall 0) emptyLevel
     ∷ refusedBy (lookupCall 0) noSuchPage
     ∷ refusedBy (lookupCall 0) notNamedThere
+    ∷ refusedBy (lookupCall 0) discardedThere
     ∷ refusedBy (lookupCall 0) new
     ∷ [])
     -- lookup where two apply: 2 and 4, 4 and 3
     ∷ (refusedBy (lookupCall 4) longSpare ∷ refusedBy (lookupCall 4) emptyLevel ∷ [])
+    -- discard
+    ∷ openedWith (discardCall 0)
+    ∷ (refusedBy (discardCall 4) new
+    ∷ refusedBy (discardCall 0) emptyLevel
+    ∷ refusedBy (discardCall 0) noSuchPage
+    ∷ refusedBy (discardCall 0) notNamedThere
+    ∷ refusedBy (discardCall 0) discardedThere
+    ∷ refusedBy (discardCall 0) new
+    ∷ [])
+    -- discard where two apply: 2 and 4, 4 and 3
+    ∷ (refusedBy (discardCall 4) longSpare ∷ refusedBy (discardCall 4) emptyLevel ∷ [])
     -- collection
     ∷ openedWith (collectOn small)
     ∷ (refusedBy (collectCall (replicate 5 0) (replicate 3 0)) new
@@ -179,7 +195,11 @@ stated =
     ∷ (2 ∷ 3 ∷ 5 ∷ 4 ∷ [])
     ∷ (1 ∷ 1 ∷ 2 ∷ 2 ∷ [])
     -- "After 1 and 2: 4; 3, its group not sound; 7, the predicted page doesn't exist or no entry names the logical page"
-    ∷ (4 ∷ 3 ∷ 7 ∷ 7 ∷ 0 ∷ [])
+    ∷ (4 ∷ 3 ∷ 7 ∷ 7 ∷ 0 ∷ 0 ∷ [])
+    ∷ (2 ∷ 4 ∷ [])
+    ∷ (1 ∷ 1 ∷ 2 ∷ 2 ∷ [])
+    -- "It refuses 1, 2, 4 and 3 as lookup does"
+    ∷ (4 ∷ 3 ∷ 0 ∷ 0 ∷ 0 ∷ 0 ∷ [])
     ∷ (2 ∷ 4 ∷ [])
     ∷ (1 ∷ 1 ∷ 2 ∷ 2 ∷ [])
     -- "After 1 and 2: 3; 8, no block is used, or one is taken with total above 0; 6, a free block is needed and none exists";
@@ -199,7 +219,7 @@ stated =
 
 -- The table of refusals.
 pub refusals : given ≡ stated
-unfolding everything small unformatted flushOn collectOn formattedThen new sized grouped counted spared single tooShort outside longState longSpare emptyLevel overfull noSuchPage notNamedThere full noneFree refusedBy opened openedWith first second given stated
+unfolding everything small unformatted flushOn collectOn formattedThen new sized grouped counted spared single tooShort outside longState longSpare emptyLevel overfull noSuchPage notNamedThere discardedThere full noneFree refusedBy opened openedWith first second given stated
 refusals = refl
 
 -- What an agreement answers of two devices after these calls.
@@ -209,14 +229,17 @@ says d cs d′ cs′ = run (agreementOf (formattedThen d cs) (formattedThen d′
 -- "yes if N is equal and every lookup gives the same page, or 'not written' in both"
 pub agreements : List Answer
 agreements =
-    -- nothing written in both; the same page; another page; written in one only; nothing written, but N differs
+    -- nothing written in both; the same page; another page; written in one only; nothing written, but N differs; discarded in one, which
+    -- is 'not written' too; discarded in one only
     says small [] small []
     ∷ says small (flushOn small (0 ∷ []) ∷ []) small (flushOn small (0 ∷ []) ∷ [])
     ∷ says small (flushOn small (0 ∷ 1 ∷ []) ∷ []) small (flushOn small (0 ∷ []) ∷ flushOn small (1 ∷ []) ∷ [])
     ∷ says small (flushOn small (0 ∷ []) ∷ []) small []
     ∷ says small [] (record { M = 3; B = 4; N = 3; g = 0 }) []
+    ∷ says small (flushOn small (0 ∷ []) ∷ discardCall 0 ∷ []) small []
+    ∷ says small (flushOn small (0 ∷ []) ∷ discardCall 0 ∷ []) small (flushOn small (0 ∷ []) ∷ [])
     ∷ []
 
-pub agree : agreements ≡ agreed true ∷ agreed true ∷ agreed false ∷ agreed false ∷ agreed false ∷ []
+pub agree : agreements ≡ agreed true ∷ agreed true ∷ agreed false ∷ agreed false ∷ agreed false ∷ agreed true ∷ agreed false ∷ []
 unfolding everything small unformatted flushOn collectOn formattedThen new says agreements
 agree = refl

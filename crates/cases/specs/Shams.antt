@@ -1,38 +1,37 @@
--- Document 01, 'Tight promises' 3: "These shams have to be rejected." Each is a way of making the calls that differs from the
--- definitions' in one, and is run on the smallest device; proofs/Rejected.antt refutes it. Assumes nothing.
+-- Document 01, 'Tight promises' 3: "These shams have to be rejected"; and those that document 02's discard tempts to. Each is a way of
+-- making the calls that differs from the definitions' in one, and is run on the smallest device; proofs/Rejected.antt refutes it.
+-- Assumes nothing.
 use mathlib.Core.Path.{_≡_, refl}
 use mathlib.Core.List.{List, [], _∷_, _++_}
 use mathlib.Core.Option.{Option, none, some}
-use mathlib.Core.Bool.{true}
+use mathlib.Core.Bool.{true, false}
 use Prim.Native.Nat.{ℕ, suc}
 use lib.ListN.{take, replicate}
 use Rattle.model.specs.Device.{groupOf, offsetOf}
 use Rattle.model.specs.Lists.{store}
 use Rattle.model.specs.Spare.{programBlock}
 use Rattle.model.specs.Learning.{Write, Run, sources, learn}
-use Rattle.model.specs.Levels.{Group, listing, holder, levelsTo}
-use Rattle.model.specs.State.{withGroups, groupAt, usedBlocks, lowestFree}
+use Rattle.model.specs.Levels.{levelsTo}
+use Rattle.model.specs.Marks.{isMarked}
+use Rattle.model.specs.State.{withMarks, withGroups, groupAt, usedBlocks, lowestFree}
 use Rattle.model.specs.Sound.{isEmpty}
 use Rattle.model.specs.Demand2.{readAt, readBy, readBack}
-use Rattle.calls.specs.Refusals.{_when_, noFreeBlock, notNamed, nothingToGain}
-use Rattle.calls.specs.Outcome.{Lent, withState, withPlan, Answer, flushed, found, notWritten, collected, refused, Outcome, unless}
+use Rattle.calls.specs.Refusals.{_when_, outOfRange, noFreeBlock, notNamed, nothingToGain}
+use Rattle.calls.specs.Outcome.{Lent, withState, withPlan, Answer, flushed, found, notWritten, discarded, collected, refused, Outcome, unless}
 use Rattle.calls.specs.Flush.{flushChecks, writeBlock, flushDone}
-use Rattle.calls.specs.Lookup.{lookedBy, answerOf, lookupChecks}
+use Rattle.calls.specs.Lookup.{Looked, at, nowhere, unnamed, descend, seek, answerOf, lookupChecks}
+use Rattle.calls.specs.Discard.{discardChecks, discardDone}
 use Rattle.calls.specs.Choice.{blocksOf}
 use Rattle.calls.specs.Collection.{victims, moves, admitChecks, collectChecks, eraseBlocks, listErased, collectDone}
 use Rattle.calls.specs.Book.{Arrival, lastWrite}
-use Rattle.calls.specs.History.{Call, lookupCall}
+use Rattle.calls.specs.History.{Call, lookupCall, discardCall}
 use Rattle.cases.specs.Small.{small, unformatted, flushOn, collectOn}
-use Rattle.cases.specs.Ways.{Way, defined, made, next, nexts, after}
+use Rattle.cases.specs.Ways.{Way, defined, withFlush, withLookup, withDiscard, withCollect, made, next, nexts, after}
 use Rattle.cases.specs.Opens.{everything}
 
 -- "'Not written' to every lookup"
 unfoldable pub alwaysUnwritten : Way
-alwaysUnwritten = record {
-  flush = defined .flush;
-  lookup = λ y x. unless (lookupChecks y x) x (record { answer = notWritten 0; after = x });
-  collect = defined .collect;
-}
+alwaysUnwritten = withLookup (λ y x. unless (lookupChecks y x) x (record { answer = notWritten 0; after = x })) defined
 
 -- "a flush that plans but stores no record": the groups stay as they were
 unfoldable pub flushedUnrecorded : List ℕ → Lent → Outcome
@@ -41,11 +40,7 @@ flushedUnrecorded batch x =
     record { answer = o .answer; after = withState (withGroups (x .state .groups) (o .after .state)) (o .after) }
 
 unfoldable pub storesNoRecord : Way
-storesNoRecord = record {
-  flush = λ batch x. unless (flushChecks batch x) x (flushedUnrecorded batch x);
-  lookup = defined .lookup;
-  collect = defined .collect;
-}
+storesNoRecord = withFlush (λ batch x. unless (flushChecks batch x) x (flushedUnrecorded batch x)) defined
 
 -- "a collection that moves the first page and merely plans the rest"
 unfoldable pub moveFirst : List Write → Lent → Lent
@@ -58,55 +53,70 @@ collectedFirst x =
     record { answer = collectDone x .answer; after = listErased ks (eraseBlocks ks (moveFirst (moves (x .state) (x .spare)) x)) }
 
 unfoldable pub movesFirstOnly : Way
-movesFirstOnly = record {
-  flush = defined .flush;
-  lookup = defined .lookup;
-  collect = λ x. unless (collectChecks x) x (collectedFirst x);
-}
+movesFirstOnly = withCollect (λ x. unless (collectChecks x) x (collectedFirst x)) defined
 
 -- "a flush refused always"
 unfoldable pub refusesFlushes : Way
-refusesFlushes = record {
-  flush = λ batch x. unless (flushChecks batch x ++ (noFreeBlock when true ∷ [])) x (flushDone batch x);
-  lookup = defined .lookup;
-  collect = defined .collect;
-}
+refusesFlushes = withFlush (λ batch x. unless (flushChecks batch x ++ (noFreeBlock when true ∷ [])) x (flushDone batch x)) defined
 
 -- "One record for the first run and none after"
 unfoldable pub learnFirst : ℕ → ℕ → List ℕ → List Run
 learnFirst g p written = take 1 (learn g p written)
 
 -- "A level count off by one"
+unfoldable pub deeper : Looked → Looked
+deeper (at p q n) = at p q (suc n)
+deeper (nowhere n) = nowhere (suc n)
+deeper unnamed = unnamed
+
 unfoldable pub lookedDeeper : ℕ → Lent → Outcome
-lookedDeeper y x =
-    let g : Group = groupAt (x .state) (groupOf y) in
-    record {
-      answer = answerOf (lookedBy (x .state .device) (x .spare) y (suc (levelsTo (offsetOf y) g)) (holder (offsetOf y) (listing g)));
-      after = x;
-    }
+lookedDeeper y x = record { answer = answerOf (deeper (seek (x .state) (x .spare) y)); after = x }
 
 unfoldable pub countsOneLevelMore : Way
-countsOneLevelMore = record {
-  flush = defined .flush;
-  lookup = λ y x. unless (lookupChecks y x) x (lookedDeeper y x);
-  collect = defined .collect;
-}
+countsOneLevelMore = withLookup (λ y x. unless (lookupChecks y x) x (lookedDeeper y x)) defined
 
 -- "'no free block' on a new device"
 unfoldable pub newDeviceFull : Way
-newDeviceFull = record {
-  flush = λ batch x. unless (flushChecks batch x ++ (noFreeBlock when isEmpty (usedBlocks 0 (x .state .counts)) ∷ [])) x (flushDone batch x);
-  lookup = defined .lookup;
-  collect = defined .collect;
-}
+newDeviceFull = withFlush (λ batch x. unless (flushChecks batch x ++ (noFreeBlock when isEmpty (usedBlocks 0 (x .state .counts)) ∷ [])) x (flushDone batch x)) defined
 
 -- "'nothing to gain' before counting"
 unfoldable pub gainUncounted : Way
-gainUncounted = record {
-  flush = defined .flush;
-  lookup = defined .lookup;
-  collect = λ x. unless (admitChecks x ++ (nothingToGain when true ∷ [])) x (collectDone x);
-}
+gainUncounted = withCollect (λ x. unless (admitChecks x ++ (nothingToGain when true ∷ [])) x (collectDone x)) defined
+
+-- a discard that says yes and marks nothing
+unfoldable pub marksNothing : Way
+marksNothing = withDiscard (λ y x. unless (discardChecks y x) x (record { answer = discarded; after = x })) defined
+
+-- a discard refused always
+unfoldable pub refusesDiscards : Way
+refusesDiscards = withDiscard (λ y x. unless (discardChecks y x ++ (outOfRange when true ∷ [])) x (discardDone y x)) defined
+
+-- a flush that leaves the mark
+unfoldable pub flushedMarked : List ℕ → Lent → Outcome
+flushedMarked batch x =
+    let o : Outcome = flushDone batch x in
+    record { answer = o .answer; after = withState (withMarks (x .state .marks) (o .after .state)) (o .after) }
+
+unfoldable pub leavesMark : Way
+leavesMark = withFlush (λ batch x. unless (flushChecks batch x) x (flushedMarked batch x)) defined
+
+-- a lookup of a marked page with all its levels
+unfoldable pub lookedThrough : ℕ → Lent → Outcome
+lookedThrough y x =
+    let n : ℕ = levelsTo (offsetOf y) (groupAt (x .state) (groupOf y)) in
+    record { answer = answerOf (elim (isMarked (x .state .marks) y) [ true ↦ nowhere n | false ↦ descend (x .state) (x .spare) y ]); after = x }
+
+unfoldable pub countsLevels : Way
+countsLevels = withLookup (λ y x. unless (lookupChecks y x) x (lookedThrough y x)) defined
+
+-- a collection that still copies a discarded page: as if no page were marked, but for what it leaves
+unfoldable pub collectedMarked : Lent → Outcome
+collectedMarked x =
+    let o : Outcome = collectDone (withState (withMarks [] (x .state)) x) in
+    record { answer = o .answer; after = withState (withMarks (x .state .marks) (o .after .state)) (o .after) }
+
+unfoldable pub copiesDiscarded : Way
+copiesDiscarded = withCollect (λ x. unless (collectChecks x) x (collectedMarked x)) defined
 
 -- What a sham answers, and what is right after the same calls.
 pub record Beside : Type 0 where
@@ -134,9 +144,13 @@ collection = collectOn small
 unfoldable pub collected01 : List Call
 collected01 = flushOf 0 ∷ flushOf 1 ∷ collection ∷ []
 
+-- 0 flushed and discarded
+unfoldable pub discarded0 : List Call
+discarded0 = flushOf 0 ∷ discardCall 0 ∷ []
+
 -- opens the shams and what they are shown by, beside `everything`
 unfoldable pub shams : ℕ
-unfolding everything small unformatted flushOn collectOn defined made next nexts after alwaysUnwritten flushedUnrecorded storesNoRecord moveFirst collectedFirst movesFirstOnly refusesFlushes learnFirst lookedDeeper countsOneLevelMore newDeviceFull gainUncounted answerBy both flushOf collection collected01
+unfolding everything small unformatted flushOn collectOn defined made next nexts after alwaysUnwritten flushedUnrecorded storesNoRecord moveFirst collectedFirst movesFirstOnly refusesFlushes learnFirst deeper lookedDeeper countsOneLevelMore newDeviceFull gainUncounted marksNothing refusesDiscards flushedMarked leavesMark lookedThrough countsLevels collectedMarked copiesDiscarded answerBy both flushOf collection collected01 discarded0
 shams = 0
 
 -- what the shams answer
@@ -151,6 +165,12 @@ given =
     ∷ both countsOneLevelMore (flushOf 0 ∷ []) (lookupCall 0)
     ∷ both newDeviceFull [] (flushOf 0)
     ∷ both gainUncounted (flushOf 0 ∷ flushOf 0 ∷ []) collection
+    ∷ both marksNothing (flushOf 0 ∷ []) (discardCall 0)
+    ∷ both marksNothing discarded0 (lookupCall 0)
+    ∷ both refusesDiscards (flushOf 0 ∷ []) (discardCall 0)
+    ∷ both leavesMark (discarded0 ++ (flushOf 0 ∷ [])) (lookupCall 0)
+    ∷ both countsLevels discarded0 (lookupCall 0)
+    ∷ both copiesDiscarded (discarded0 ++ (flushOf 1 ∷ [])) collection
     ∷ []
 
 pub stated : List Beside
@@ -172,6 +192,17 @@ stated =
     ∷ beside (refused noFreeBlock) (flushed 0 1)
     -- "'nothing to gain' before counting": a collection, after two flushes of 0
     ∷ beside (refused nothingToGain) (collected 8 1 2)
+    -- a discard that says yes and marks nothing: its own answer is the right one, but 0 is found
+    ∷ beside discarded discarded
+    ∷ beside (found 0 0 1) (notWritten 0)
+    -- a discard refused always: of 0, after a flush of it
+    ∷ beside (refused outOfRange) discarded
+    -- a flush that leaves the mark: of 0, after it was discarded
+    ∷ beside (notWritten 0) (found 4 4 1)
+    -- a lookup of a marked page with all its levels: of 0, after it was discarded
+    ∷ beside (notWritten 1) (notWritten 0)
+    -- a collection that still copies a discarded page: after 0 was discarded, and a flush of 1
+    ∷ beside (collected 8 2 2) (collected 8 1 2)
     ∷ []
 
 -- The shams' answers, computed.

@@ -13,7 +13,7 @@ small = record { M = 3; B = 4; N = 4; g = 0 }
 -- buffers of the right lengths for a device, before its format; what they hold is of no account
 unfoldable pub unformatted : Device → Past
 unformatted d = record {
-  state = record { bytes = stateLength d; device = d; counts = []; groups = [] };
+  state = record { bytes = stateLength d; device = d; counts = []; marks = []; groups = [] };
   spare = replicate (spareLength d) 7;
   book = blankBook;
 }

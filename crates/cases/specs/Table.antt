@@ -1,12 +1,13 @@
--- Document 01, 'Cases': those marked P, as one table. What the definitions give is what the document says. Assumes nothing.
+-- Document 01, 'Cases': those marked P, with one of a discarded page (document 02, a), as one table. What the definitions give is what
+-- the documents say. Assumes nothing.
 use mathlib.Core.Path.{_≡_, refl}
 use mathlib.Core.List.{List, [], _∷_, _++_}
 use Prim.Native.Nat.{ℕ, zero, suc}
 use lib.IntN.{pos, negsuc}
 use Rattle.model.specs.Device.{Device}
 use Rattle.calls.specs.Refusals.{noFreeBlock}
-use Rattle.calls.specs.Outcome.{formatted, flushed, found, collected, refused}
-use Rattle.calls.specs.History.{Call, formatCall, lookupCall, Past, step, steps}
+use Rattle.calls.specs.Outcome.{formatted, flushed, found, notWritten, discarded, collected, refused}
+use Rattle.calls.specs.History.{Call, formatCall, lookupCall, discardCall, Past, step, steps}
 use Rattle.cases.specs.Shown.{Shown, records, predictions, plan, answer, row, learned, predicted, planned, called, lookups}
 use Rattle.cases.specs.Small.{small, unformatted, flushOn, collectOn}
 use Rattle.cases.specs.Opens.{everything}
@@ -20,6 +21,12 @@ pages (suc n) x = x ∷ pages n (suc x)
 smallCalls : List Call
 smallCalls =
     formatCall small ∷ flushOn small (0 ∷ []) ∷ flushOn small (0 ∷ []) ∷ flushOn small (0 ∷ []) ∷ collectOn small ∷ lookupCall 0 ∷ []
+
+-- M 3, B 4, N 4, g 0: a page discarded, collected while it is, and written again
+discardCalls : List Call
+discardCalls =
+    formatCall small ∷ flushOn small (0 ∷ 1 ∷ []) ∷ discardCall 0 ∷ lookupCall 0 ∷ lookupCall 1 ∷ flushOn small (2 ∷ 3 ∷ []) ∷ collectOn small ∷ lookupCall 0
+    ∷ flushOn small (0 ∷ []) ∷ lookupCall 0 ∷ []
 
 -- "Script (M 9, B 64, N 256, g 1; after the paper's figure 13)"
 scripted : Device
@@ -49,7 +56,7 @@ given =
     ∷ learned 0 0 (255 ∷ 256 ∷ [])
     ∷ learned 1 0 (255 ∷ 256 ∷ [])
     ∷ planned (7 ∷ 7 ∷ [])
-    ∷ (called smallCalls (unformatted small) ++ (lookups early (50 ∷ 78 ∷ 82 ∷ []) ++ lookups late (78 ∷ [])))
+    ∷ (called smallCalls (unformatted small) ++ called discardCalls (unformatted small) ++ (lookups early (50 ∷ 78 ∷ 82 ∷ []) ++ lookups late (78 ∷ [])))
 
 -- what document 01 says; an answer's numbers in its order, so a lookup's are page, predicted page, levels
 pub stated : List Shown
@@ -75,6 +82,19 @@ stated =
     ∷ answer (refused noFreeBlock) (99 ∷ 99 ∷ 99 ∷ 99 ∷ []) []
     ∷ answer (collected 8 1 2) (4 ∷ 99 ∷ 99 ∷ 99 ∷ []) (0 ∷ 1 ∷ 99 ∷ [])
     ∷ answer (found 8 8 1) [] []
+    -- flush 0, 1; discard 0; lookup 0: not written, 0 levels; lookup 1: page 1, 1 level
+    ∷ answer formatted [] []
+    ∷ answer (flushed 0 2) (0 ∷ 1 ∷ 99 ∷ 99 ∷ []) []
+    ∷ answer discarded [] []
+    ∷ answer (notWritten 0) [] []
+    ∷ answer (found 1 1 1) [] []
+    -- flush 2, 3; collection erases 0, 1, copies pages 1, 4, 5 to 8 on: page 0 is not valid; lookup 0: not written, 0 levels
+    ∷ answer (flushed 4 2) (0 ∷ 1 ∷ 99 ∷ 99 ∷ []) []
+    ∷ answer (collected 8 3 2) (1 ∷ 4 ∷ 5 ∷ 99 ∷ []) (0 ∷ 1 ∷ 99 ∷ [])
+    ∷ answer (notWritten 0) [] []
+    -- flush 0; lookup 0: page 0, 1 level
+    ∷ answer (flushed 0 1) (0 ∷ 99 ∷ 99 ∷ 99 ∷ []) []
+    ∷ answer (found 0 0 1) [] []
     -- "lookup 50: page 50, 2 levels"
     ∷ answer (found 50 50 2) [] []
     -- "lookup 78: page 193, 2 levels"
@@ -87,5 +107,5 @@ stated =
 
 -- The table.
 pub table : given ≡ stated
-unfolding everything small unformatted flushOn collectOn pages smallCalls scripted flushOf early late given stated
+unfolding everything small unformatted flushOn collectOn pages smallCalls discardCalls scripted flushOf early late given stated
 table = refl

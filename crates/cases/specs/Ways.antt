@@ -15,15 +15,17 @@ use Rattle.model.specs.Demand2.{Demanded}
 use Rattle.calls.specs.Outcome.{Lent, Answer, Outcome, unless}
 use Rattle.calls.specs.Flush.{flushChecks, flushDone}
 use Rattle.calls.specs.Lookup.{lookupChecks, lookupDone}
+use Rattle.calls.specs.Discard.{discardChecks, discardDone}
 use Rattle.calls.specs.Collection.{collectChecks, collectDone}
-use Rattle.calls.specs.History.{Call, formatCall, flushCall, lookupCall, collectCall, compactCall, agreeCall, listCall, lentTo, run, Past, pastAfter}
+use Rattle.calls.specs.History.{Call, formatCall, flushCall, lookupCall, discardCall, collectCall, compactCall, agreeCall, listCall, lentTo, run, Past, pastAfter}
 use Rattle.calls.specs.Demand3.{Machine}
 use Rattle.cases.specs.Small.{small, unformatted}
 
--- A way: what a flush, a lookup and a collection come to, refusals included. The other calls are made as the definitions say.
+-- A way: what a flush, a lookup, a discard and a collection come to, refusals included. The other calls are made as the definitions say.
 pub record Way : Type 0 where
   pub flush : (batch : List ℕ) → Lent → Outcome
   pub lookup : (page : ℕ) → Lent → Outcome
+  pub discard : (page : ℕ) → Lent → Outcome
   pub collect : Lent → Outcome
 
 -- the definitions' way
@@ -31,14 +33,29 @@ unfoldable pub defined : Way
 defined = record {
   flush = λ batch x. unless (flushChecks batch x) x (flushDone batch x);
   lookup = λ y x. unless (lookupChecks y x) x (lookupDone y x);
+  discard = λ y x. unless (discardChecks y x) x (discardDone y x);
   collect = λ x. unless (collectChecks x) x (collectDone x);
 }
+
+-- a way with another flush; another lookup, discard, collection
+abbrev pub withFlush : (List ℕ → Lent → Outcome) → Way → Way
+withFlush f w = record { flush = f; lookup = w .lookup; discard = w .discard; collect = w .collect }
+
+abbrev pub withLookup : (ℕ → Lent → Outcome) → Way → Way
+withLookup f w = record { flush = w .flush; lookup = f; discard = w .discard; collect = w .collect }
+
+abbrev pub withDiscard : (ℕ → Lent → Outcome) → Way → Way
+withDiscard f w = record { flush = w .flush; lookup = w .lookup; discard = f; collect = w .collect }
+
+abbrev pub withCollect : (Lent → Outcome) → Way → Way
+withCollect f w = record { flush = w .flush; lookup = w .lookup; discard = w .discard; collect = f }
 
 -- a call, made so
 unfoldable pub made : Way → Call → State → List ℕ → Outcome
 made w (formatCall d) s spare = run (formatCall d) s spare
 made w (flushCall batch plan) s spare = w .flush batch (lentTo (flushCall batch plan) s spare)
 made w (lookupCall x) s spare = w .lookup x (lentTo (lookupCall x) s spare)
+made w (discardCall x) s spare = w .discard x (lentTo (discardCall x) s spare)
 made w (collectCall plan erased) s spare = w .collect (lentTo (collectCall plan erased) s spare)
 made w (compactCall k) s spare = run (compactCall k) s spare
 made w (agreeCall a sa b sb) s spare = run (agreeCall a sa b sb) s spare

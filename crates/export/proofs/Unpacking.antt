@@ -5,7 +5,7 @@ use mathlib.Core.Bool.{true, false}
 use Prim.Native.Nat.{ℕ, _+_, _*_, _/_, _%_, _<_}
 use native.Mathlib.Omega.{arith}
 use Rattle.calls.specs.Refusals.{refusalNumber}
-use Rattle.calls.specs.Outcome.{Answer, formatted, flushed, found, notWritten, collected, compacted, agreed, listed, refused}
+use Rattle.calls.specs.Outcome.{Answer, formatted, flushed, found, notWritten, discarded, collected, compacted, agreed, listed, refused}
 use Rattle.calls.specs.History.{Call}
 use Rattle.calls.specs.Bounds.{Bounded}
 use Rattle.state.specs.Ran.{Slices}
@@ -30,6 +30,7 @@ Unpacked r formatted = Fields r 0 0 0 0 0
 Unpacked r (flushed p n) = Fields r 0 0 0 n p
 Unpacked r (found p q n) = Fields r 0 1 n q p
 Unpacked r (notWritten n) = Fields r 0 0 n 0 0
+Unpacked r discarded = Fields r 0 0 0 0 0
 Unpacked r (collected p n e) = Fields r 0 0 e n p
 Unpacked r (compacted n) = Fields r 0 0 0 0 n
 Unpacked r (agreed true) = Fields r 0 0 0 0 1
@@ -43,6 +44,7 @@ answer-unpacked formatted h = unpacks 0 0 0 0 0 _ (omega arith) (omega arith) (o
 answer-unpacked (flushed p n) h = unpacks 0 0 0 n p _ (omega arith) (omega arith) (omega arith) (omega arith) (omega arith)
 answer-unpacked (found p q n) h = unpacks 0 1 n q p _ (omega arith) (omega arith) (omega arith) (omega arith) (omega arith)
 answer-unpacked (notWritten n) h = unpacks 0 0 n 0 0 _ (omega arith) (omega arith) (omega arith) (omega arith) (omega arith)
+answer-unpacked discarded h = unpacks 0 0 0 0 0 _ (omega arith) (omega arith) (omega arith) (omega arith) (omega arith)
 answer-unpacked (collected p n e) h = unpacks 0 0 e n p _ (omega arith) (omega arith) (omega arith) (omega arith) (omega arith)
 answer-unpacked (compacted n) h = unpacks 0 0 0 0 n _ (omega arith) (omega arith) (omega arith) (omega arith) (omega arith)
 answer-unpacked (agreed true) h = unpacks 0 0 0 0 1 _ (omega arith) (omega arith) (omega arith) (omega arith) (omega arith)

@@ -6,7 +6,7 @@ use mathlib.Core.Bool.{true, false}
 use Prim.Native.Nat.{ℕ, _+_, _*_}
 use Rattle.model.specs.Device.{Device, withinLimits, stateLength, spareLength}
 use Rattle.calls.specs.Refusals.{refusalNumber}
-use Rattle.calls.specs.Outcome.{Answer, formatted, flushed, found, notWritten, collected, compacted, agreed, listed, refused}
+use Rattle.calls.specs.Outcome.{Answer, formatted, flushed, found, notWritten, discarded, collected, compacted, agreed, listed, refused}
 use Rattle.calls.specs.History.{Call}
 use Rattle.state.specs.Ran.{Slices, Ran}
 
@@ -29,6 +29,7 @@ packed formatted = 0
 packed (flushed p n) = n * bit20 + p
 packed (found p q n) = bit56 + n * bit40 + q * bit20 + p
 packed (notWritten n) = n * bit40
+packed discarded = 0
 packed (collected p n e) = e * bit40 + n * bit20 + p
 packed (compacted n) = n
 packed (agreed true) = 1

@@ -10,11 +10,12 @@ use spare::Numbers;
 use state::numbers::state_len;
 use state::numbers::within_limits;
 use upkeep::compact::compact;
+use upkeep::discard::discard;
 use upkeep::format::format;
 ghost use mathlib.Core.Path.{_≡_};
 ghost use mathlib.Core.List.{List, []};
 ghost use Prim.Native.Nat.{ℕ};
-ghost use Rattle.calls.specs.History.{formatCall, flushCall, lookupCall, collectCall, compactCall, agreeCall, listCall};
+ghost use Rattle.calls.specs.History.{formatCall, flushCall, lookupCall, discardCall, collectCall, compactCall, agreeCall, listCall};
 ghost use Rattle.state.specs.Reading.{numbersAt, readState};
 ghost use Rattle.state.specs.Outside.{SameOutside};
 ghost use Rattle.state.specs.Ran.{deviceSlices, listingSlices};
@@ -81,6 +82,15 @@ pub extern "C" fn hedjosur_lookup(state: &[u8], spare: &[u32], page: u32) -> u64
         (deviceSlices (now (state .entry)) (now (spare .entry))) ⌝ }
 {
     pack::lookup(lookup(state, spare, page))
+}
+
+// Document 02's discard: 0.
+#[no_mangle]
+pub extern "C" fn hedjosur_discard(state: &mut [u8], spare: &[u32], page: u32) -> u64
+    ensures { λ r. ⌜ Packs (discardCall page) (now (state .entry)) (now (spare .entry)) r
+        (deviceSlices (now (state .exit)) (now (spare .entry))) ⌝ }
+{
+    pack::discard(discard(state, spare, page))
 }
 
 // Document 01's collection: blocks erased × 2^40 + count × 2^20 + first page.

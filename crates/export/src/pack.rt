@@ -2,6 +2,7 @@
 use state::answers::Agreed;
 use state::answers::Collected;
 use state::answers::Compacted;
+use state::answers::Discarded;
 use state::answers::Flushed;
 use state::answers::Formatted;
 use state::answers::Listed;
@@ -11,7 +12,7 @@ use state::answers::number;
 ghost use mathlib.Core.Path.{_≡_};
 ghost use Rattle.calls.specs.Outcome.{refused};
 ghost use Rattle.calls.specs.Bounds.{Bounded};
-ghost use Rattle.state.specs.Answers.{refusalOf, formatAnswer, flushAnswer, lookupAnswer, collectAnswer, compactAnswer, agreeAnswer, listAnswer};
+ghost use Rattle.state.specs.Answers.{refusalOf, formatAnswer, flushAnswer, lookupAnswer, discardAnswer, collectAnswer, compactAnswer, agreeAnswer, listAnswer};
 ghost use Rattle.export.specs.Packing.{packed};
 
 // The places of the fields behind the first.
@@ -58,6 +59,15 @@ pub fn lookup(a: Lookup) -> u64
         }
         Lookup::NotWritten(n) => (n as u64) * BIT40,
         Lookup::Refused(r) => refused(r),
+    }
+}
+
+pub fn discard(a: Discarded) -> u64
+    ensures { λ n. ⌜ n ≡ packed (discardAnswer a) ⌝ }
+{
+    match a {
+        Discarded::Done => 0,
+        Discarded::Refused(r) => refused(r),
     }
 }
 

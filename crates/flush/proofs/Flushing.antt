@@ -8,11 +8,11 @@ use native.Mathlib.Omega.{arith}
 use lib.ListN.{length}
 use borrow.Author.Tests.{ltb-false, not-false}
 use Rattle.model.specs.Device.{Device, firstPage}
-use Rattle.model.specs.State.{State, freeBlocks, lowestFree}
+use Rattle.model.specs.State.{State, withMarks, freeBlocks, lowestFree}
 use Rattle.model.proofs.Blocks.{lowest-free}
 use Rattle.calls.specs.Refusals.{Refusal, firstRefusal, openingWith}
 use Rattle.calls.specs.Outcome.{accepted, refused, flushed}
-use Rattle.calls.specs.Flush.{flushChecks, flushDone, writeBlock}
+use Rattle.calls.specs.Flush.{flushChecks, clearMarks, flushDone, writeBlock}
 use Rattle.calls.specs.History.{flushCall, lend, lentTo, checksOf, effect}
 use Rattle.calls.proofs.Fitting.{fits-of}
 use Rattle.calls.proofs.Refusing.{clears, is-clear}
@@ -20,7 +20,7 @@ use Rattle.state.specs.Reading.{readState}
 use Rattle.state.specs.Ran.{Ran}
 use Rattle.state.proofs.Refusing.{ran-refused, ran-accepted, opened-with}
 use Rattle.state.proofs.Shaping.{length-counts}
-use Rattle.flush.specs.Written.{Admitted, Written}
+use Rattle.flush.specs.Written.{Admitted, BatchWritten}
 
 module _ (state spare batch plan : List ℕ) where
   abbrev s : State
@@ -53,10 +53,10 @@ module _ (state spare batch plan : List ℕ) where
     pub lowest-inside : (k : ℕ) → k ≡ lowestFree s → k < d .M
     lowest-inside k e = omega (arith, lowest-free (s .counts) (omega (arith, passed .free)) .0, length-counts d state (passed .shape))
 
-    -- the block is written, and its first page and the count are answered
-    pub flush-written : (k n : ℕ) (state′ spare′ plan′ : List ℕ) → k ≡ lowestFree s → Written d batch k n s (readState state′) spare spare′ plan plan′
+    -- the batch is written, and the block's first page and the count are answered
+    pub flush-written : (k n : ℕ) (state′ spare′ plan′ : List ℕ) → k ≡ lowestFree s → BatchWritten d batch k n s (readState state′) spare spare′ plan plan′
         → Ran (flushCall batch plan) state spare (flushed (k * d .B) n) (record { state = state′; spare = spare′; plan = plan′; erased = []; out = [] })
-    unfolding checksOf lentTo lend effect flushDone writeBlock firstPage accepted
+    unfolding checksOf lentTo lend effect flushDone clearMarks withMarks writeBlock firstPage accepted
     flush-written k n state′ spare′ plan′ e w =
         ran-accepted (flushCall batch plan) state spare (flushed (k * d .B) n) _ clear (rw (e, w .count, ← numbers))
         (rw (w .state, w .area, w .listed, e, ← numbers)) (λ z. absurd (true≢false z))

@@ -2,3 +2,4 @@ pub mod Batches
 pub mod Sorted
 pub mod Checking
 pub mod Flushing
+pub mod Unmarked

@@ -11,7 +11,7 @@ use Rattle.model.specs.Spare.{programBlock}
 use Rattle.model.specs.Learning.{sorted, logicals, sources}
 use Rattle.model.specs.State.{State, freeBlocks}
 use Rattle.model.specs.Sound.{soundState}
-use Rattle.calls.specs.Flush.{writeState}
+use Rattle.calls.specs.Flush.{writeState, clearMarks}
 use Rattle.state.specs.Shaped.{Shaped}
 
 -- in the device's own numbers
@@ -30,3 +30,7 @@ pub record Written (d : Device) (batch : List ℕ) (k n : ℕ) (s s′ : State) 
   pub state : s′ ≡ writeState (sorted batch) k s
   pub area : spare′ ≡ programBlock d (logicals (sorted batch)) k spare
   pub listed : plan′ ≡ store plan 0 (sources (sorted batch))
+
+-- so it did where the marks of the batch's logical pages were cleared before: the parts of calls' `flushDone`
+abbrev pub BatchWritten : (d : Device) (batch : List ℕ) (k n : ℕ) (s s′ : State) (spare spare′ plan plan′ : List ℕ) → Type 0
+BatchWritten d batch k n s s′ spare spare′ plan plan′ = Written d batch k n (clearMarks batch s) s′ spare spare′ plan plan′

@@ -9,6 +9,7 @@ use state::answers::Refusal;
 use state::counts::free_count;
 use state::counts::lowest_free;
 use state::groups::sound;
+use state::marks::unmark_all;
 use state::opening::Opened;
 use state::opening::open_with_spare;
 use writing::block::write_block;
@@ -26,7 +27,7 @@ ghost use Rattle.state.specs.Reading.{readState};
 ghost use Rattle.state.specs.Answers.{flushAnswer};
 ghost use Rattle.state.specs.Opening.{verdict, verdictOf};
 ghost use Rattle.state.specs.Ran.{Ran};
-ghost use Rattle.flush.specs.Written.{Admitted, Written};
+ghost use Rattle.flush.specs.Written.{Admitted, Written, BatchWritten};
 
 // Whether the size is wrong: "5, batch empty or longer than B".
 fn wrong_size(batch: &[u32], b: u32) -> bool
@@ -85,7 +86,7 @@ fn write_sorted(
     n as u32
 }
 
-// Block k takes the batch; how many pages it takes. One that ascends is not copied.
+// Block k takes the batch, whose logical pages are discarded no more; how many pages it takes. One that ascends is not copied.
 fn write_batch(
     state: &mut [u8],
     spare: &mut [u32],
@@ -95,9 +96,10 @@ fn write_batch(
     batch: &[u32],
 ) -> u32
     requires { ⌜ Admitted (numbersOf d) (readState (now state)) (now spare) (now batch) (now plan) × (k < d .m) ⌝ }
-    ensures { λ r. ⌜ Written (numbersOf d) (now (batch .entry)) k r (readState (now (state .entry))) (readState (now (state .exit)))
+    ensures { λ r. ⌜ BatchWritten (numbersOf d) (now (batch .entry)) k r (readState (now (state .entry))) (readState (now (state .exit)))
         (now (spare .entry)) (now (spare .exit)) (now (plan .entry)) (now (plan .exit)) ⌝ }
 {
+    unmark_all(state, d, batch);
     if ascends(batch) {
         number(batch, plan);
         write_block(state, spare, d, k, batch);

@@ -7,15 +7,15 @@ use Prim.Native.Nat.{ℕ}
 use lib.Dec.{eqb}
 use lib.ListN.{length, getD, replicate}
 use Rattle.model.specs.Device.{Device}
-use Rattle.model.specs.State.{State, withCounts, withGroups}
+use Rattle.model.specs.State.{State, withCounts, withMarks, withGroups}
 use Rattle.calls.specs.Refusals.{Refusal, firstRefusal}
 use Rattle.calls.specs.Outcome.{Lent, outcome, unless}
-use Rattle.calls.specs.Flush.{writeState, writeBlock, flushDone}
+use Rattle.calls.specs.Flush.{writeState, writeBlock, clearMarks, flushDone}
 use Rattle.calls.specs.Lookup.{lookupDone}
 use Rattle.calls.specs.Collection.{victims, moves, eraseBlock, eraseBlocks, listErased, collectDone, moveAll}
 use Rattle.calls.specs.Choice.{blocksOf}
 use Rattle.calls.specs.Compaction.{compactGroup, compactDone}
-use Rattle.calls.specs.History.{Call, formatCall, flushCall, lookupCall, collectCall, compactCall, agreeCall, listCall, lend, lentTo, checksOf, effect, run}
+use Rattle.calls.specs.History.{Call, formatCall, flushCall, lookupCall, discardCall, collectCall, compactCall, agreeCall, listCall, lend, lentTo, checksOf, effect, run}
 use Rattle.calls.proofs.Collected.{moved-rest}
 use Rattle.listing.specs.declared.lent.Held.{Held}
 use Rattle.listing.specs.Sizes.{spareRoom, stateRoom}
@@ -27,7 +27,7 @@ abbrev Keeps : Call → Type 0
 Keeps c = (x : Lent) → effect c x .after .state .device ≡ x .state .device
 
 flush-keeps : (batch plan : List ℕ) → Keeps (flushCall batch plan)
-unfolding effect flushDone writeBlock writeState withCounts withGroups
+unfolding effect flushDone clearMarks writeBlock writeState withCounts withMarks withGroups
 flush-keeps batch plan x = refl
 
 lookup-keeps : (page : ℕ) → Keeps (lookupCall page)
@@ -68,6 +68,7 @@ unfolding lentTo lend
 lent-state (formatCall d) s spare = refl
 lent-state (flushCall batch plan) s spare = refl
 lent-state (lookupCall x) s spare = refl
+lent-state (discardCall x) s spare = refl
 lent-state (collectCall plan erased) s spare = refl
 lent-state (compactCall k) s spare = refl
 lent-state (agreeCall a sa b sb) s spare = refl

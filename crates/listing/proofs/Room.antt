@@ -8,7 +8,7 @@ use native.Mathlib.Nat.{mul-le-mul-left}
 use borrow.Author.Tests.{leb-true, le-leb, lt-leb}
 use lib.Dec.{leb}
 use lib.ListN.{length, take}
-use Rattle.model.specs.Device.{Device, withinLimits, groupCount, entriesPerPage, namesPerPage, entriesPerBlock, spareLength, headLength, countLength, groupLength, regions, regionsLength, stateLength}
+use Rattle.model.specs.Device.{Device, withinLimits, groupCount, marksCount, entriesPerPage, namesPerPage, entriesPerBlock, spareLength, headLength, countLength, marksLength, groupLength, regions, regionsLength, stateLength}
 use Rattle.model.proofs.Bools.{and-l, and-r}
 use Rattle.model.proofs.Limits.{Limits, limits}
 use Rattle.state.specs.Reading.{readState}
@@ -62,22 +62,26 @@ module _ (d : Device) where
       let four : 4 ≤ d .B * (2 * d .g + 1) = omega (arith, l .least-B, mul-le-mul-left (d .B) one) in
       mul-le-mul-left (d .M) four
 
-  -- 1,024 logical pages are 4 groups
+  -- 1,024 logical pages have 128 bytes of marks, and are 4 groups
+  few-marks : d .N ≤ pageRoom → marksCount d ≤ 128
+  unfolding marksCount
+  few-marks h = omega arith
+
   few-groups : d .N ≤ pageRoom → groupCount d ≤ 4
   unfolding groupCount
   few-groups h = omega arith
 
   -- the longest state that is taken
-  state-room : d .M ≤ blockRoom → groupCount d ≤ 4 → stateLength d ≤ stateRoom
-  unfolding stateLength regionsLength regions headLength countLength groupLength
-  state-room h k = omega arith
+  state-room : d .M ≤ blockRoom → marksCount d ≤ 128 → groupCount d ≤ 4 → stateLength d ≤ stateRoom
+  unfolding stateLength regionsLength regions headLength countLength marksLength groupLength
+  state-room h m k = omega arith
 
   -- those of a device that is taken do
   pub inside : takesDevice d ≡ true → Inside d
   inside t =
       let l : Limits d = limits d (taken-within t) in
       let blocks : d .M ≤ blockRoom = omega (arith, four-entries l, taken-entries t) in
-      record { state = state-room blocks (few-groups (taken-pages t)); spare = taken-entries t; blocks = blocks; pages = l .most-B }
+      record { state = state-room blocks (few-marks (taken-pages t)) (few-groups (taken-pages t)); spare = taken-entries t; blocks = blocks; pages = l .most-B }
 
   -- and the memory that holds it is ready
   pub room : (state spare : List ℕ) → takesDevice d ≡ true → length state ≡ stateRoom → length spare ≡ spareRoom

@@ -17,7 +17,7 @@ abbrev pub blockRoom : ℕ
 blockRoom = 2048
 
 abbrev pub stateRoom : ℕ
-stateRoom = 26656
+stateRoom = 26784
 
 -- the largest block has 256 pages
 abbrev pub planRoom : ℕ

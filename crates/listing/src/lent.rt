@@ -26,7 +26,7 @@ ghost use Rattle.listing.specs.Session.{takesDevice, callOf};
 ghost use Rattle.listing.specs.Memory.{inUse, InMemory, Obeyed, Takes};
 
 // The memory: bytes of state, spare entries, and the blocks, pages of a block and logical pages that they allow.
-pub const STATE: usize = 26656;
+pub const STATE: usize = 26784;
 
 pub const SPARE: usize = 8192;
 

@@ -1,9 +1,7 @@
 // Lookup: from a logical page to the page that holds it.
 use state::answers::Lookup;
-use state::answers::Refusal;
-use state::groups::group_sound;
 use state::opening::Opened;
-use state::opening::open_with_spare;
+use state::opening::open_page;
 use state::seek::seek;
 ghost use Rattle.calls.specs.History.{lookupCall};
 ghost use Rattle.state.specs.Answers.{lookupAnswer};
@@ -14,16 +12,10 @@ pub fn lookup(state: &[u8], spare: &[u32], page: u32) -> Lookup
     ensures { λ r. ⌜ Ran (lookupCall page) (now (state .entry)) (now (spare .entry)) (lookupAnswer r)
         (deviceSlices (now (state .entry)) (now (spare .entry))) ⌝ }
 {
-    let opened = open_with_spare(state, spare);
+    let opened = open_page(state, spare, page);
     let d = match opened {
         Opened::Device(d) => d,
         Opened::Refused(r) => return Lookup::Refused(r),
     };
-    if d.n <= page {
-        return Lookup::Refused(Refusal::OutOfRange);
-    }
-    if !group_sound(state, d, page / 256) {
-        return Lookup::Refused(Refusal::NotSound);
-    }
     seek(state, spare, d, page)
 }

@@ -4,6 +4,8 @@ pub mod Counting
 pub mod Parts
 pub mod Limits
 pub mod Blocks
+pub mod Bits
+pub mod Marks
 pub mod SpareArea
 pub mod Image
 pub mod PageNamed

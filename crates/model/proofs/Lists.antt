@@ -7,8 +7,8 @@ use Prim.Native.Nat.{ℕ, zero, suc, _+_, _≤_, _<_}
 use native.Mathlib.Omega.{arith}
 use native.Mathlib.Nat.{le-refl}
 use lib.Dec.{ltb, eqb}
-use lib.ListN.{length, getD, set, take}
-use borrow.Author.Tests.{ltb-true, eqb-true, eqb-false, eq-eqb, lt-ltb}
+use lib.ListN.{length, getD, set, take, replicate, length-replicate, getD-replicate, List·getD-eq-default}
+use borrow.Author.Tests.{ltb-true, ltb-false, eqb-true, eqb-false, eq-eqb, lt-ltb}
 use Rattle.model.specs.Lists.{all, elem, ascending, lastOf, select, store}
 use Rattle.model.proofs.Bools.{and-l, and-r, and-i, all-head, all-tail, all-cons}
 
@@ -261,3 +261,13 @@ module _ {A : Type 0} where
   getD-store-above (x ∷ s) zero (v ∷ vs) (suc j) d h = getD-store-above s zero vs j d (omega arith)
   getD-store-above (x ∷ s) (suc i) vs zero d h = absurd (omega arith)
   getD-store-above (x ∷ s) (suc i) vs (suc j) d h = getD-store-above s i vs j d (omega arith)
+
+-- reading a list of equal elements gives that element, beyond its end too
+pub replicate-at : {A : Type 0} (n i : ℕ) (a : A) → getD (replicate n a) i a ≡ a
+replicate-at n i a = go (ltb i n) refl
+  where
+    go : (t : Bool) → ltb i n ≡ t → getD (replicate n a) i a ≡ a
+    go true e = getD-replicate n i a a (ltb-true i n e)
+    go false e =
+        let h : n ≤ i = ltb-false i n e in
+        List·getD-eq-default (replicate n a) a (rw length-replicate h)

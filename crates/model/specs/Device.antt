@@ -44,6 +44,10 @@ offsetOf x = x % 256
 unfoldable pub groupCount : Device → ℕ
 groupCount d = ceil (d .N) 256
 
+-- how many bytes the marks of discarded logical pages take (document 02, a): a bit for each logical page
+unfoldable pub marksCount : Device → ℕ
+marksCount d = ceil (d .N) 8
+
 -- "Each page has 2g + 1 spare entries": so many names, and no other entries
 unfoldable pub namesPerPage : Device → ℕ
 namesPerPage d = 2 * d .g + 1
@@ -64,21 +68,26 @@ pub record Region : Type 0 where
   pub cells : ℕ
   pub width : ℕ
 
--- the bytes of the device numbers, of a block's count, of a group
+-- the bytes of the device numbers, of a block's count, of eight marks, of a group
 unfoldable pub headLength : ℕ
 headLength = 16
 
 unfoldable pub countLength : ℕ
 countLength = 2
 
+unfoldable pub marksLength : ℕ
+marksLength = 1
+
 unfoldable pub groupLength : ℕ
 groupLength = 5636
 
--- "holds M, B, N, g, each block's count of written pages (0 is free) and the groups": in this order
+-- "holds M, B, N, g, each block's count of written pages (0 is free) and the groups": in this order, the marks of discarded logical
+-- pages before the groups
 unfoldable pub regions : Device → List Region
 regions d =
     record { cells = 1; width = headLength }
     ∷ record { cells = d .M; width = countLength }
+    ∷ record { cells = marksCount d; width = marksLength }
     ∷ record { cells = groupCount d; width = groupLength }
     ∷ []
 

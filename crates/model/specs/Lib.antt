@@ -4,6 +4,7 @@ pub mod Record
 pub mod Spare
 pub mod Learning
 pub mod Levels
+pub mod Marks
 pub mod State
 pub mod Sound
 pub mod Totals

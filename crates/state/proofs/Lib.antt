@@ -6,8 +6,10 @@ pub mod Regions
 pub mod Shaping
 pub mod Writers
 pub mod Scanning
+pub mod Marking
 pub mod Handing
 pub mod Refusing
 pub mod GroupChecks
+pub mod PageChecks
 pub mod Seeking
 pub mod Bounds

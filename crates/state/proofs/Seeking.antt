@@ -13,6 +13,7 @@ use Rattle.model.specs.Device.{Device, pages, offsetOf, groupOf}
 use Rattle.model.specs.Record.{Record, Kind, accurate, approximate, kindOf, kind, member, predict}
 use Rattle.model.specs.Spare.{pageNamed}
 use Rattle.model.specs.Levels.{Group, listing, holder, levelsTo}
+use Rattle.model.specs.Marks.{isMarked}
 use Rattle.model.specs.State.{State, groupAt}
 use Rattle.model.specs.Sound.{soundAs, soundRecord, soundGroup}
 use Rattle.model.proofs.Bools.{and-l, all-head, all-tail}
@@ -20,7 +21,8 @@ use Rattle.model.proofs.SoundRecord.{record-parts}
 use Rattle.model.proofs.SoundGroup.{group-parts}
 use Rattle.calls.specs.Refusals.{notNamed}
 use Rattle.calls.specs.Outcome.{Answer, found, notWritten, refused}
-use Rattle.calls.specs.Lookup.{Looked, at, nowhere, unnamed, lookedNamed, lookedAt, lookedBy, seek, answerOf}
+use Rattle.calls.specs.Lookup.{Looked, at, nowhere, unnamed, lookedNamed, lookedAt, lookedBy, descend, seek, answerOf}
+use Rattle.calls.proofs.Marked.{seek-marked, seek-unmarked}
 use Rattle.calls.proofs.Refusing.{none-some}
 use Rattle.record.specs.Read.{asRecord, bare, existing}
 use Rattle.record.specs.declared.Record as code
@@ -127,20 +129,29 @@ module _ (N k o : ℕ) (g : Group) (h : soundGroup N k g ≡ true) (r : code.Rec
   unfolding held-owned
   held-is = held .1 ∙ ap (λ (b : code.Record). some (asRecord b (held .0 .owned))) (held .2)
 
--- so a lookup is what its record gives, or nothing
+-- so the records give what theirs does, or nothing
 module _ (s : State) (d : Device) (spare : List ℕ) (x : ℕ) (numbers : s .device ≡ d) where
-  pub seek-held : (r : Record) (n : ℕ) (a : Answer) → holder (offsetOf x) (listing (groupAt s (groupOf x))) ≡ some r → n ≡ levelsTo (offsetOf x) (groupAt s (groupOf x))
-      → a ≡ answerOf (lookedAt d spare x n (predict r (offsetOf x))) → a ≡ answerOf (seek s spare x)
-  unfolding seek lookedBy
-  seek-held r n a e f q = q ∙ ap answerOf (rw (e, ← f, numbers))
+  pub descend-held : (r : Record) (n : ℕ) (a : Answer) → holder (offsetOf x) (listing (groupAt s (groupOf x))) ≡ some r → n ≡ levelsTo (offsetOf x) (groupAt s (groupOf x))
+      → a ≡ answerOf (lookedAt d spare x n (predict r (offsetOf x))) → a ≡ answerOf (descend s spare x)
+  unfolding descend lookedBy
+  descend-held r n a e f q = q ∙ ap answerOf (rw (e, ← f, numbers))
 
-  pub seek-none : (n : ℕ) → none ≡ Option·map bare (holder (offsetOf x) (listing (groupAt s (groupOf x)))) → n ≡ levelsTo (offsetOf x) (groupAt s (groupOf x)) → notWritten n ≡ answerOf (seek s spare x)
-  unfolding seek lookedBy answerOf
-  seek-none n e f = ap answerOf (go (holder (offsetOf x) (listing (groupAt s (groupOf x)))) e)
+  pub descend-none : (n : ℕ) → none ≡ Option·map bare (holder (offsetOf x) (listing (groupAt s (groupOf x)))) → n ≡ levelsTo (offsetOf x) (groupAt s (groupOf x)) → notWritten n ≡ answerOf (descend s spare x)
+  unfolding descend lookedBy answerOf
+  descend-none n e f = ap answerOf (go (holder (offsetOf x) (listing (groupAt s (groupOf x)))) e)
     where
       go : (a : Option Record) → none ≡ Option·map bare a → nowhere n ≡ lookedBy (s .device) spare x (levelsTo (offsetOf x) (groupAt s (groupOf x))) a
       go none e = rw f
       go (some m) e = none-some e
+
+-- a lookup is what the mark says, or what the records do
+module _ (s : State) (spare : List ℕ) (x : ℕ) (t : Bool) (e : t ≡ isMarked (s .marks) x) where
+  pub marked-answer : t ≡ true → notWritten 0 ≡ answerOf (seek s spare x)
+  unfolding answerOf
+  marked-answer f = ap answerOf (sym (seek-marked s spare x (sym e ∙ f)))
+
+  pub unmarked-answer : t ≡ false → (a : Answer) → a ≡ answerOf (descend s spare x) → a ≡ answerOf (seek s spare x)
+  unmarked-answer f a q = q ∙ ap answerOf (sym (seek-unmarked s spare x (sym e ∙ f)))
 
 -- what the answer says that a lookup came to
 pub looked-is : (l : Lookup) (a : Looked) → lookupAnswer l ≡ answerOf a → asLooked l ≡ a

@@ -4,15 +4,15 @@ use mathlib.Core.List.{List, []}
 use Prim.Native.Nat.{ℕ, _+_, _≤_, _<_}
 use native.Mathlib.Omega.{arith}
 use lib.ListN.{length, getD}
-use Rattle.model.specs.Device.{Device, groupCount, countLength, groupLength, regions, stateLength}
+use Rattle.model.specs.Device.{Device, groupCount, marksCount, countLength, marksLength, groupLength, regions, stateLength}
 use Rattle.model.specs.Levels.{Group}
-use Rattle.model.specs.State.{State, withCounts, withGroups, groupAt}
+use Rattle.model.specs.State.{State, withCounts, withMarks, withGroups, groupAt}
 use Rattle.bytes.specs.Little.{le16}
 use Rattle.bytes.proofs.Same.{part-at, length-part}
 use Rattle.bytes.proofs.ReadWrite.{le16-same}
 use Rattle.group.specs.Reading.{readGroup}
-use Rattle.state.specs.Regions.{countRegion, groupRegion, cell, readRegion}
-use Rattle.state.specs.Reading.{numbersAt, readCount, countPlace, groupPlace, readState}
+use Rattle.state.specs.Regions.{countRegion, marksRegion, groupRegion, cell, readRegion}
+use Rattle.state.specs.Reading.{numbersAt, readCount, readMarks, countPlace, marksPlace, groupPlace, readState}
 use Rattle.state.specs.Shaped.{Shaped, countOf}
 use Rattle.state.proofs.Tables.{length-from, getD-from}
 use Rattle.state.proofs.Regions.{cell-inside}
@@ -30,6 +30,10 @@ module _ (d : Device) (s : List ℕ) (h : Shaped d (readState s)) where
   unfolding readState
   counts-are = ap (λ (e : Device). readRegion readCount e countRegion s) numbers-are
 
+  pub marks-are : readState s .marks ≡ readRegion readMarks d marksRegion s
+  unfolding readState
+  marks-are = ap (λ (e : Device). readRegion readMarks e marksRegion s) numbers-are
+
   pub groups-are : readState s .groups ≡ readRegion readGroup d groupRegion s
   unfolding readState
   groups-are = ap (λ (e : Device). readRegion readGroup e groupRegion s) numbers-are
@@ -38,6 +42,10 @@ module _ (d : Device) (s : List ℕ) (h : Shaped d (readState s)) where
   unfolding readRegion regions
   length-counts = ap length counts-are ∙ length-from _ 0 (d .M)
 
+  pub length-marks : length (readState s .marks) ≡ marksCount d
+  unfolding readRegion regions
+  length-marks = ap length marks-are ∙ length-from _ 0 (marksCount d)
+
   pub length-groups : length (readState s .groups) ≡ groupCount d
   unfolding readRegion regions
   length-groups = ap length groups-are ∙ length-from _ 0 (groupCount d)
@@ -45,6 +53,10 @@ module _ (d : Device) (s : List ℕ) (h : Shaped d (readState s)) where
   count-is : (k : ℕ) → k < d .M → getD (readState s .counts) k 0 ≡ readCount (cell d countRegion s k)
   unfolding readRegion regions
   count-is k l = ap (λ (cs : List ℕ). getD cs k 0) counts-are ∙ getD-from (λ i. readCount (cell d countRegion s i)) (d .M) k 0 l
+
+  marks-is : (k : ℕ) → k < marksCount d → getD (readState s .marks) k 0 ≡ readMarks (cell d marksRegion s k)
+  unfolding readRegion regions
+  marks-is k l = ap (λ (ms : List ℕ). getD ms k 0) marks-are ∙ getD-from (λ i. readMarks (cell d marksRegion s i)) (marksCount d) k 0 l
 
   pub group-is : (k : ℕ) → k < groupCount d → groupAt (readState s) k ≡ readGroup (cell d groupRegion s k)
   unfolding groupAt readRegion regions
@@ -59,6 +71,17 @@ module _ (d : Device) (s : List ℕ) (h : Shaped d (readState s)) where
   unfolding countOf readCount cell regions countLength
   count-read k p r l e f = f ∙ ap (le16 s) e ∙ sym (count-is k l ∙ le16-same (part-at 2 s (countPlace d k)))
 
+  -- so does a byte of the marks
+  pub marks-in : (k p : ℕ) → k < marksCount d → p ≡ marksPlace d k → p < length s
+  unfolding regions marksLength
+  marks-in k p l e = omega (arith, e, cell-inside d marksRegion k l, long)
+
+  pub marks-read : (k p r : ℕ) → k < marksCount d → p ≡ marksPlace d k → r ≡ getD s p 0 → r ≡ getD (readState s .marks) k 0
+  unfolding readMarks cell regions marksLength
+  marks-read k p r l e f =
+      let q : p ≡ marksPlace d k + 0 = omega arith in
+      f ∙ ap (λ (i : ℕ). getD s i 0) q ∙ sym (marks-is k l ∙ part-at 1 s (marksPlace d k) .each 0 (omega arith))
+
   -- and a group's
   pub group-in : (k : ℕ) → k < groupCount d → groupPlace d k + groupLength ≤ length s
   unfolding regions
@@ -68,10 +91,14 @@ module _ (d : Device) (s : List ℕ) (h : Shaped d (readState s)) where
   unfolding cell regions
   length-group k l = length-part s (groupPlace d k) groupLength (group-in k l)
 
--- other counts, other groups: the same shape
+-- other counts, other marks, other groups: the same shape
 pub shaped-counts : (d : Device) (cs : List ℕ) (s : State) → Shaped d s → Shaped d (withCounts cs s)
 unfolding withCounts
 shaped-counts d cs s h = record { numbers = h .numbers; limits = h .limits; long = h .long }
+
+pub shaped-marks : (d : Device) (ms : List ℕ) (s : State) → Shaped d s → Shaped d (withMarks ms s)
+unfolding withMarks
+shaped-marks d ms s h = record { numbers = h .numbers; limits = h .limits; long = h .long }
 
 pub shaped-groups : (d : Device) (gs : List Group) (s : State) → Shaped d s → Shaped d (withGroups gs s)
 unfolding withGroups

@@ -1,32 +1,32 @@
--- What is read after a write: a count stored changes that count alone, a group's part replaced that group alone, by the law of the
--- regions. Assumes nothing.
-use mathlib.Core.Path.{_≡_, sym, ap, _∙_}
-use mathlib.Core.List.{List}
+-- What is read after a write: a count stored changes that count alone, a byte of the marks that byte, a group's part replaced that
+-- group, by the law of the regions. Assumes nothing.
+use mathlib.Core.Path.{_≡_, refl, sym, ap, _∙_}
+use mathlib.Core.List.{List, [], _∷_}
 use Prim.Native.Nat.{ℕ, _≤_, _<_}
 use native.Mathlib.Omega.{arith}
 use lib.ListN.{length, set}
 use Rattle.model.specs.Lists.{store}
-use Rattle.model.specs.Device.{Device, groupCount, headLength, countLength, groupLength, regions, regionsLength}
+use Rattle.model.specs.Device.{Device, groupCount, marksCount, headLength, countLength, marksLength, groupLength, regions, regionsLength}
 use Rattle.model.specs.Levels.{Group}
-use Rattle.model.specs.State.{withCounts, withGroups}
+use Rattle.model.specs.State.{withCounts, withMarks, withGroups}
 use Rattle.model.proofs.Lists.{length-store}
 use Rattle.bytes.specs.Little.{le16, bytes2}
 use Rattle.bytes.proofs.Same.{stored-below}
 use Rattle.bytes.proofs.ReadWrite.{length-bytes2}
 use Rattle.group.specs.Reading.{readGroup}
-use Rattle.state.specs.Regions.{countRegion, groupRegion, placeAt, cellPlace, readRegion}
-use Rattle.state.specs.Reading.{numbersAt, readCount, countPlace, groupPlace, readState}
+use Rattle.state.specs.Regions.{countRegion, marksRegion, groupRegion, placeAt, cellPlace, readRegion}
+use Rattle.state.specs.Reading.{numbersAt, readCount, readMarks, countPlace, marksPlace, groupPlace, readState}
 use Rattle.state.specs.Shaped.{Shaped}
 use Rattle.state.proofs.Head.{numbers-same}
 use Rattle.state.proofs.Regions.{head-before, region-other, region-set}
-use Rattle.state.proofs.Shaping.{long, numbers-are, counts-are, groups-are}
+use Rattle.state.proofs.Shaping.{long, numbers-are, counts-are, marks-are, groups-are}
 
 -- the state that bytes are read as, region by region
-read-as : (d : Device) (t : List ℕ) (n : ℕ) (cs : List ℕ) (gs : List Group) → length t ≡ n → numbersAt t ≡ d
-    → readRegion readCount d countRegion t ≡ cs → readRegion readGroup d groupRegion t ≡ gs
-    → readState t ≡ record { bytes = n; device = d; counts = cs; groups = gs }
+read-as : (d : Device) (t : List ℕ) (n : ℕ) (cs ms : List ℕ) (gs : List Group) → length t ≡ n → numbersAt t ≡ d
+    → readRegion readCount d countRegion t ≡ cs → readRegion readMarks d marksRegion t ≡ ms → readRegion readGroup d groupRegion t ≡ gs
+    → readState t ≡ record { bytes = n; device = d; counts = cs; marks = ms; groups = gs }
 unfolding readState
-read-as d t n cs gs l e c g = rw (e, l, c, g)
+read-as d t n cs ms gs l e c m g = rw (e, l, c, m, g)
 
 -- two bytes are read as the number stored in them
 count-back : (v : ℕ) → v < 65536 → readCount (bytes2 v) ≡ v
@@ -35,14 +35,15 @@ count-back v h = omega arith
 
 module _ (d : Device) (s : List ℕ) (h : Shaped d (readState s)) where
   -- v stored in a cell behind the device numbers: the regions are read anew
-  stored-read : (r k : ℕ) (v cs : List ℕ) (gs : List Group) → 1 ≤ r
-      → readRegion readCount d countRegion (store s (cellPlace d r k) v) ≡ cs → readRegion readGroup d groupRegion (store s (cellPlace d r k) v) ≡ gs
-      → readState (store s (cellPlace d r k) v) ≡ record { bytes = readState s .bytes; device = readState s .device; counts = cs; groups = gs }
+  stored-read : (r k : ℕ) (v cs ms : List ℕ) (gs : List Group) → 1 ≤ r
+      → readRegion readCount d countRegion (store s (cellPlace d r k) v) ≡ cs → readRegion readMarks d marksRegion (store s (cellPlace d r k) v) ≡ ms
+      → readRegion readGroup d groupRegion (store s (cellPlace d r k) v) ≡ gs
+      → readState (store s (cellPlace d r k) v) ≡ record { bytes = readState s .bytes; device = readState s .device; counts = cs; marks = ms; groups = gs }
   unfolding readState placeAt regions regionsLength headLength
-  stored-read r k v cs gs one c g =
-      read-as d _ (length s) cs gs (length-store s (cellPlace d r k) v)
-      (numbers-same (stored-below 16 s (cellPlace d r k) v 0 (omega (arith, head-before d r k one))) ∙ numbers-are d s h) c g
-      ∙ ap (λ (e : Device). record { bytes = length s; device = e; counts = cs; groups = gs }) (sym (numbers-are d s h))
+  stored-read r k v cs ms gs one c m g =
+      read-as d _ (length s) cs ms gs (length-store s (cellPlace d r k) v)
+      (numbers-same (stored-below 16 s (cellPlace d r k) v 0 (omega (arith, head-before d r k one))) ∙ numbers-are d s h) c m g
+      ∙ ap (λ (e : Device). record { bytes = length s; device = e; counts = cs; marks = ms; groups = gs }) (sym (numbers-are d s h))
 
   -- a count stored at its place, p
   pub count-stored-at : (k v p : ℕ) → k < d .M → v < 65536 → p ≡ countPlace d k → readState (store s p (bytes2 v)) ≡ withCounts (set (readState s .counts) k v) (readState s)
@@ -50,17 +51,29 @@ module _ (d : Device) (s : List ℕ) (h : Shaped d (readState s)) where
   count-stored-at k v p there small e =
       let size : length (bytes2 v) ≡ 2 = length-bytes2 v in
       ap (λ (q : ℕ). readState (store s q (bytes2 v))) e
-      ∙ stored-read countRegion k (bytes2 v) (set (readState s .counts) k v) (readState s .groups) (omega arith)
+      ∙ stored-read countRegion k (bytes2 v) (set (readState s .counts) k v) (readState s .marks) (readState s .groups) (omega arith)
       (region-set d s (long d s h) countRegion k (bytes2 v) there size readCount
       ∙ ap (set (readRegion readCount d countRegion s) k) (count-back v small)
       ∙ ap (λ (cs : List ℕ). set cs k v) (sym (counts-are d s h)))
+      (region-other d s (long d s h) countRegion k (bytes2 v) there size readMarks marksRegion (λ n. omega arith) ∙ sym (marks-are d s h))
       (region-other d s (long d s h) countRegion k (bytes2 v) there size readGroup groupRegion (λ n. omega arith) ∙ sym (groups-are d s h))
+
+  -- a byte of the marks stored at its place, p
+  pub marks-stored-at : (k v p : ℕ) → k < marksCount d → p ≡ marksPlace d k → readState (store s p (v ∷ [])) ≡ withMarks (set (readState s .marks) k v) (readState s)
+  unfolding withMarks readMarks regions marksLength
+  marks-stored-at k v p there e =
+      ap (λ (q : ℕ). readState (store s q (v ∷ []))) e
+      ∙ stored-read marksRegion k (v ∷ []) (readState s .counts) (set (readState s .marks) k v) (readState s .groups) (omega arith)
+      (region-other d s (long d s h) marksRegion k (v ∷ []) there refl readCount countRegion (λ n. omega arith) ∙ sym (counts-are d s h))
+      (region-set d s (long d s h) marksRegion k (v ∷ []) there refl readMarks ∙ ap (λ (ms : List ℕ). set ms k v) (sym (marks-are d s h)))
+      (region-other d s (long d s h) marksRegion k (v ∷ []) there refl readGroup groupRegion (λ n. omega arith) ∙ sym (groups-are d s h))
 
   -- a group's part replaced
   pub group-stored : (k : ℕ) (t : List ℕ) → k < groupCount d → length t ≡ groupLength
       → readState (store s (groupPlace d k) t) ≡ withGroups (set (readState s .groups) k (readGroup t)) (readState s)
   unfolding withGroups regions
   group-stored k t there size =
-      stored-read groupRegion k t (readState s .counts) (set (readState s .groups) k (readGroup t)) (omega arith)
+      stored-read groupRegion k t (readState s .counts) (readState s .marks) (set (readState s .groups) k (readGroup t)) (omega arith)
       (region-other d s (long d s h) groupRegion k t there size readCount countRegion (λ n. omega arith) ∙ sym (counts-are d s h))
+      (region-other d s (long d s h) groupRegion k t there size readMarks marksRegion (λ n. omega arith) ∙ sym (marks-are d s h))
       (region-set d s (long d s h) groupRegion k t there size readGroup ∙ ap (λ (gs : List Group). set gs k (readGroup t)) (sym (groups-are d s h)))

@@ -11,6 +11,8 @@ use Rattle.state.specs.declared.answers.Flushed.{Flushed}
 use Rattle.state.specs.declared.answers.Flushed.the-variants as flushed
 use Rattle.state.specs.declared.answers.Lookup.{Lookup}
 use Rattle.state.specs.declared.answers.Lookup.the-variants as lookup
+use Rattle.state.specs.declared.answers.Discarded.{Discarded}
+use Rattle.state.specs.declared.answers.Discarded.the-variants as discarded
 use Rattle.state.specs.declared.answers.Collected.{Collected}
 use Rattle.state.specs.declared.answers.Collected.the-variants as collected
 use Rattle.state.specs.declared.answers.Compacted.{Compacted}
@@ -48,6 +50,10 @@ unfoldable pub asLooked : Lookup → looked.Looked
 asLooked (lookup.Found f) = looked.at (f .page) (f .predicted) (f .levels)
 asLooked (lookup.NotWritten n) = looked.nowhere n
 asLooked (lookup.Refused r) = looked.unnamed
+
+unfoldable pub discardAnswer : Discarded → outcome.Answer
+discardAnswer discarded.Done = outcome.discarded
+discardAnswer (discarded.Refused r) = outcome.refused (refusalOf r)
 
 unfoldable pub collectAnswer : Collected → outcome.Answer
 collectAnswer (collected.Done p n e) = outcome.collected p n e

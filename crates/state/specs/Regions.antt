@@ -8,8 +8,11 @@ use Rattle.model.specs.Device.{Device, Region, regions, regionsLength}
 abbrev pub countRegion : ℕ
 countRegion = 1
 
+abbrev pub marksRegion : ℕ
+marksRegion = 2
+
 abbrev pub groupRegion : ℕ
-groupRegion = 2
+groupRegion = 3
 
 -- region r; none behind the last
 abbrev pub regionAt : List Region → ℕ → Region

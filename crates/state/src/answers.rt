@@ -40,6 +40,11 @@ pub enum Lookup {
     Refused(Refusal),
 }
 
+pub enum Discarded {
+    Done,
+    Refused(Refusal),
+}
+
 // First page, count and number erased.
 pub enum Collected {
     Done(u32, u32, u32),

@@ -4,11 +4,11 @@ ghost use mathlib.Core.Path.{_≡_};
 ghost use mathlib.Core.Bool.{true};
 ghost use Prim.Native.Nat.{_+_, _≤_};
 ghost use lib.ListN.{length};
-ghost use Rattle.model.specs.Device.{Device, withinLimits, groupCount, headLength, groupLength, stateLength};
+ghost use Rattle.model.specs.Device.{Device, withinLimits, groupCount, marksCount, headLength, groupLength, stateLength};
 ghost use Rattle.spare.specs.Read.{numbersOf};
-ghost use Rattle.state.specs.Reading.{numbersAt, countPlace, groupPlace};
+ghost use Rattle.state.specs.Reading.{numbersAt, countPlace, marksPlace, groupPlace};
 
-// The bytes of the device numbers, of a block's count, of a group.
+// The bytes of the device numbers, of a block's count, of a group; eight marks have one.
 pub const HEAD: usize = 16;
 
 const COUNT: usize = 2;
@@ -60,6 +60,14 @@ pub fn group_count(d: Numbers) -> u32
     (d.n + 255) / 256
 }
 
+// How many bytes the marks of discarded logical pages take.
+pub fn marks_count(d: Numbers) -> u32
+    requires { ⌜ withinLimits (numbersOf d) ≡ true ⌝ }
+    ensures { λ r. ⌜ r ≡ marksCount (numbersOf d) ⌝ }
+{
+    (d.n + 7) / 8
+}
+
 // The place of block k's count.
 pub(crate) fn count_place(k: u32) -> usize
     requires { ⌜ k ≤ 4096 ⌝ }
@@ -68,12 +76,21 @@ pub(crate) fn count_place(k: u32) -> usize
     HEAD + (k as usize) * COUNT
 }
 
+// The place of byte k of the marks, and of what follows the last one.
+pub(crate) fn marks_place(d: Numbers, k: u32) -> usize
+    requires { ⌜ (withinLimits (numbersOf d) ≡ true) × (k ≤ marksCount (numbersOf d)) ⌝ }
+    ensures { λ r. ⌜ r ≡ marksPlace (numbersOf d) k ⌝ }
+{
+    count_place(d.m) + (k as usize)
+}
+
 // The place of group k, and of what follows the last one.
 pub fn group_place(d: Numbers, k: u32) -> usize
     requires { ⌜ (withinLimits (numbersOf d) ≡ true) × (k ≤ groupCount (numbersOf d)) ⌝ }
     ensures { λ r. ⌜ r ≡ groupPlace (numbersOf d) k ⌝ }
 {
-    count_place(d.m) + (k as usize) * GROUP
+    let n = marks_count(d);
+    marks_place(d, n) + (k as usize) * GROUP
 }
 
 // Where group k ends.

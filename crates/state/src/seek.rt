@@ -1,8 +1,10 @@
-// A lookup in a sound group: from a logical page to the page that holds it, by the records and the predicted page's entries.
+// A lookup in a sound group: from a logical page to the page that holds it, by the records and the predicted page's entries, unless it
+// is discarded.
 use crate::answers::Found;
 use crate::answers::Lookup;
 use crate::answers::Refusal;
 use crate::groups::find;
+use crate::marks::is_marked;
 use group::Hit;
 use record::Page;
 use record::Record;
@@ -17,7 +19,7 @@ ghost use Rattle.model.specs.Device.{withinLimits, groupOf, offsetOf, spareLeng
 ghost use Rattle.model.specs.Record.{predict};
 ghost use Rattle.model.specs.State.{groupAt};
 ghost use Rattle.model.specs.Sound.{soundGroup};
-ghost use Rattle.calls.specs.Lookup.{lookedAt, seek, answerOf};
+ghost use Rattle.calls.specs.Lookup.{lookedAt, descend, seek, answerOf};
 ghost use Rattle.spare.specs.Read.{numbersOf};
 ghost use Rattle.record.specs.Read.{asRecord};
 ghost use Rattle.state.specs.Reading.{readState};
@@ -45,11 +47,11 @@ fn named(spare: &[u32], d: Numbers, page: u32, r: Record, n: u32) -> Lookup
     })
 }
 
-// The lookup itself, where its group is sound.
-pub fn seek(state: &[u8], spare: &[u32], d: Numbers, page: u32) -> Lookup
+// What the records say of a logical page whose group is sound.
+fn descend(state: &[u8], spare: &[u32], d: Numbers, page: u32) -> Lookup
     requires { ⌜ Shaped (numbersOf d) (readState (now state)) × (length (now spare) ≡ spareLength (numbersOf d)) × (page < d .n)
         × (soundGroup (d .n) (groupOf page) (groupAt (readState (now state)) (groupOf page)) ≡ true) ⌝ }
-    ensures { λ r. ⌜ lookupAnswer r ≡ answerOf (seek (readState (now (state .entry))) (now (spare .entry)) page) ⌝ }
+    ensures { λ r. ⌜ lookupAnswer r ≡ answerOf (descend (readState (now (state .entry))) (now (spare .entry)) page) ⌝ }
 {
     let k = page / 256;
     let o = page % 256;
@@ -58,4 +60,16 @@ pub fn seek(state: &[u8], spare: &[u32], d: Numbers, page: u32) -> Lookup
         Hit::At(r, n) => named(spare, d, page, r, n),
         Hit::Nowhere(n) => Lookup::NotWritten(n),
     }
+}
+
+// The lookup itself, where its group is sound: of a discarded page no record is looked at.
+pub fn seek(state: &[u8], spare: &[u32], d: Numbers, page: u32) -> Lookup
+    requires { ⌜ Shaped (numbersOf d) (readState (now state)) × (length (now spare) ≡ spareLength (numbersOf d)) × (page < d .n)
+        × (soundGroup (d .n) (groupOf page) (groupAt (readState (now state)) (groupOf page)) ≡ true) ⌝ }
+    ensures { λ r. ⌜ lookupAnswer r ≡ answerOf (seek (readState (now (state .entry))) (now (spare .entry)) page) ⌝ }
+{
+    if is_marked(state, d, page) {
+        return Lookup::NotWritten(0);
+    }
+    descend(state, spare, d, page)
 }

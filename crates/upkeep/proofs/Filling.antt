@@ -1,5 +1,5 @@
--- A list of the state, its counts or its groups, whose elements become x one after the other: what the state is after k turns, and
--- after all. Assumes nothing.
+-- A list of the state, its counts, its marks or its groups, whose elements become x one after the other: what the state is after k
+-- turns, and after all. Assumes nothing.
 use mathlib.Core.Path.{_≡_, refl, sym, ap, _∙_}
 use mathlib.Core.List.{List, [], _∷_, _++_}
 use Prim.Native.Nat.{ℕ, zero, suc, _+_, _<_}
@@ -7,7 +7,7 @@ use native.Mathlib.Omega.{arith}
 use native.Mathlib.Numerals.{add-one}
 use lib.ListN.{length, set, drop, replicate}
 use Rattle.model.specs.Levels.{Group}
-use Rattle.model.specs.State.{State, withCounts, withGroups}
+use Rattle.model.specs.State.{State, withCounts, withMarks, withGroups}
 
 -- a list of the state, and the state with another one for it
 pub record Part (A : Type 0) : Type 0 where
@@ -31,6 +31,21 @@ counts-again l m s = refl
 
 abbrev pub counts : Part ℕ
 counts = record { of = λ s. s .counts; put = withCounts; same = counts-same; back = counts-back; again = counts-again }
+
+pub marks-same : (s : State) → withMarks (s .marks) s ≡ s
+unfolding withMarks
+marks-same s = refl
+
+pub marks-back : (l : List ℕ) (s : State) → withMarks l s .marks ≡ l
+unfolding withMarks
+marks-back l s = refl
+
+pub marks-again : (l m : List ℕ) (s : State) → withMarks l (withMarks m s) ≡ withMarks l s
+unfolding withMarks
+marks-again l m s = refl
+
+abbrev pub marks : Part ℕ
+marks = record { of = λ s. s .marks; put = withMarks; same = marks-same; back = marks-back; again = marks-again }
 
 pub groups-same : (s : State) → withGroups (s .groups) s ≡ s
 unfolding withGroups

@@ -3,3 +3,4 @@ pub mod Emptied
 pub mod Filling
 pub mod Formatting
 pub mod Compacting
+pub mod Discarding

@@ -1,13 +1,15 @@
-// Format: the device numbers, all blocks free, all groups empty, every spare entry naming nobody.
+// Format: the device numbers, all blocks free, no logical page marked, all groups empty, every spare entry naming nobody.
 use group::OWNED_AT;
 use group::USED_AT;
 use spare::Numbers;
 use state::answers::Formatted;
 use state::answers::Refusal;
 use state::counts::set_count;
+use state::marks::set_marks_byte;
 use state::numbers::group_count;
 use state::numbers::group_end;
 use state::numbers::group_place;
+use state::numbers::marks_count;
 use state::numbers::state_len;
 use state::numbers::within_limits;
 ghost use mathlib.Core.Path.{_≡_};
@@ -16,8 +18,8 @@ ghost use mathlib.Core.List.{[]};
 ghost use Prim.Native.Nat.{_≤_, _<_};
 ghost use lib.ListN.{length, set, replicate};
 ghost use Rattle.model.specs.Lists.{store};
-ghost use Rattle.model.specs.Device.{withinLimits, groupCount, headLength, groupLength, stateLength};
-ghost use Rattle.model.specs.State.{withCounts, withGroups};
+ghost use Rattle.model.specs.Device.{withinLimits, groupCount, marksCount, headLength, groupLength, stateLength};
+ghost use Rattle.model.specs.State.{withCounts, withMarks, withGroups};
 ghost use Rattle.calls.specs.Format.{blankState};
 ghost use Rattle.calls.specs.History.{formatCall};
 ghost use Rattle.spare.specs.Read.{numbersOf};
@@ -48,6 +50,19 @@ fn free_blocks(state: &mut [u8], d: Numbers)
     let mut k = 0;
     while k < m {
         set_count(state, d, k, 0);
+        k += 1;
+    }
+}
+
+// No logical page is marked any more.
+fn clear_marks(state: &mut [u8], d: Numbers)
+    requires { ⌜ Shaped (numbersOf d) (readState (now state)) ⌝ }
+    ensures { λ _. ⌜ readState (now (state .exit)) ≡ withMarks (replicate (marksCount (numbersOf d)) 0) (readState (now (state .entry))) ⌝ }
+{
+    let n = marks_count(d);
+    let mut k = 0;
+    while k < n {
+        set_marks_byte(state, d, k, 0);
         k += 1;
     }
 }
@@ -92,6 +107,7 @@ fn blank(state: &mut [u8], d: Numbers)
 {
     write_numbers(state, d);
     free_blocks(state, d);
+    clear_marks(state, d);
     empty_groups(state, d);
 }
 

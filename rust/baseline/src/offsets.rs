@@ -75,6 +75,24 @@ impl Offsets {
         Offsets(words)
     }
 
+    /// The set of these bits, lowest first.
+    #[inline]
+    pub fn from_bytes(bytes: [u8; 32]) -> Offsets {
+        let (words, _) = bytes.as_chunks::<8>();
+        Offsets(std::array::from_fn(|k| u64::from_le_bytes(words[k])))
+    }
+
+    /// The set's bits, lowest first.
+    #[inline]
+    pub fn to_bytes(self) -> [u8; 32] {
+        let mut bytes = [0; 32];
+        let (words, _) = bytes.as_chunks_mut::<8>();
+        for (bytes, word) in words.iter_mut().zip(self.0) {
+            *bytes = word.to_le_bytes();
+        }
+        bytes
+    }
+
     /// Puts an offset into the set.
     #[inline]
     pub fn insert(&mut self, offset: u8) {

@@ -53,11 +53,10 @@ impl Buffers {
     pub fn crowded(device: &Device) -> Buffers {
         let random = &mut Random::new(0);
         let state = State {
-            numbers: device.numbers(),
-            counts: vec![0; device.blocks as usize],
             groups: (0..device.groups())
                 .map(|_| kinds::crowded(random))
                 .collect(),
+            ..State::formatted(device)
         };
         let state = encode_state(&state, || 0).expect("a state with bytes");
         Buffers::new(device, state, vec![spare::NOBODY; device.spare_length()])
@@ -71,6 +70,11 @@ impl Buffers {
     /// Flushes a batch.
     pub fn flush(&mut self, calls: &dyn Calls, batch: &[u32]) -> Result<Flushed, Refusal> {
         calls.flush(&mut self.state, &mut self.area, batch, &mut self.plan)
+    }
+
+    /// Discards a logical page.
+    pub fn discard(&mut self, calls: &dyn Calls, logical_page: u32) -> Result<(), Refusal> {
+        calls.discard(&mut self.state, &self.area, logical_page)
     }
 
     /// Collects.

@@ -3,6 +3,7 @@
 use std::hint::black_box;
 
 use hedjosur_baseline::device;
+use hedjosur_conformance::subjects::Baseline;
 use hedjosur_layout::encode_state;
 use hedjosur_model::device::Device;
 use hedjosur_model::spare;
@@ -18,22 +19,22 @@ use crate::timing::compare;
 /// How many groups of a kind take turns.
 const GROUPS: u64 = 16;
 
-/// A device of one group of a kind, and logical pages to look up.
-struct Lookups {
+/// A device of one group of a kind, and logical pages that lookups don't refuse.
+struct OneGroup {
     buffers: Buffers,
     pages: Vec<u32>,
 }
 
-impl Lookups {
+impl OneGroup {
     /// A group's records predict pages, and the spare area names as many logical
     /// pages as it can where they are predicted.
-    fn new((_, group): Kind, bound: u32, seed: u64) -> Lookups {
+    fn new((_, group): Kind, bound: u32, seed: u64) -> OneGroup {
         let random = &mut Random::new(seed);
         let device = full_device(9, 64, bound);
         let state = State {
-            numbers: device.numbers(),
             counts: vec![64; 9],
             groups: vec![group(random)],
+            ..State::formatted(&device)
         };
         let mut area = vec![spare::NOBODY; device.spare_length()];
         for offset in 0..=255 {
@@ -52,8 +53,60 @@ impl Lookups {
         random.shuffle(&mut pages);
         pages.truncate(8);
         let buffers = Buffers::new(&device, state, area);
-        Lookups { buffers, pages }
+        OneGroup { buffers, pages }
     }
+
+    /// The devices of a kind that take turns.
+    fn all(kind: Kind, bound: u32) -> Vec<OneGroup> {
+        let devices = (0..GROUPS).map(|seed| OneGroup::new(kind, bound, seed));
+        devices.collect()
+    }
+
+    /// Discards the logical pages.
+    fn discard(&mut self) {
+        for &page in &self.pages {
+            assert_eq!(self.buffers.discard(&Baseline, page), Ok(()));
+        }
+    }
+}
+
+/// Times a call about each of the logical pages.
+fn time_pages(
+    function: &str,
+    input: &str,
+    mut work: Vec<OneGroup>,
+    baseline: impl Fn(&mut Buffers, u32),
+    proved: impl Fn(&mut Buffers, u32),
+) {
+    fn run(call: impl Fn(&mut Buffers, u32)) -> impl Fn(&mut Vec<OneGroup>) {
+        move |work| {
+            for OneGroup { buffers, pages } in work {
+                for &page in pages.iter() {
+                    call(buffers, page);
+                }
+            }
+        }
+    }
+    let calls = work.iter().map(|one| one.pages.len()).sum();
+    row(function, input, || {
+        compare(&mut work, calls, |_| (), run(baseline), run(proved))
+    });
+}
+
+/// Times lookups.
+fn time_lookups(input: &str, work: Vec<OneGroup>) {
+    time_pages(
+        "lookup",
+        input,
+        work,
+        |Buffers { state, area, .. }, page| {
+            let _ = black_box(device::lookup(state, area, page));
+        },
+        |Buffers { state, area, .. }, page| {
+            let device = hedjosur::Device { state, spare: area };
+            let _ = black_box(device.lookup(page));
+        },
+    );
 }
 
 /// Times lookups in groups of all kinds, and in some for other error bounds.
@@ -61,42 +114,42 @@ pub fn lookup() {
     let mixed = |bound| MIXED.into_iter().map(move |kind| (kind, bound));
     let all = kinds::all().map(|kind| (kind, 1));
     for (kind, bound) in mixed(0).chain(all).chain(mixed(4)) {
-        let mut work: Vec<Lookups> = (0..GROUPS)
-            .map(|seed| Lookups::new(kind, bound, seed))
-            .collect();
-        let lookups = work.iter().map(|one| one.pages.len()).sum();
-        row("lookup", &format!("{}, g {bound}", kind.0), || {
-            compare(
-                &mut work,
-                lookups,
-                |_| (),
-                |work| {
-                    for Lookups { buffers, pages } in work {
-                        for &page in pages.iter() {
-                            let _ = black_box(device::lookup(&buffers.state, &buffers.area, page));
-                        }
-                    }
-                },
-                |work| {
-                    for Lookups { buffers, pages } in work {
-                        let device = hedjosur::Device {
-                            state: &buffers.state[..],
-                            spare: &buffers.area[..],
-                        };
-                        for &page in pages.iter() {
-                            let _ = black_box(device.lookup(page));
-                        }
-                    }
-                },
-            )
-        });
+        let input = format!("{}, g {bound}", kind.0);
+        time_lookups(&input, OneGroup::all(kind, bound));
+    }
+}
+
+/// Times lookups of discarded pages.
+pub fn lookup_of_discarded() {
+    for kind in MIXED {
+        let mut work = OneGroup::all(kind, 1);
+        work.iter_mut().for_each(OneGroup::discard);
+        time_lookups(&format!("{}, discarded", kind.0), work);
+    }
+}
+
+/// Times discards, in groups of all kinds.
+pub fn discard() {
+    for kind in kinds::all() {
+        time_pages(
+            "discard",
+            kind.0,
+            OneGroup::all(kind, 1),
+            |Buffers { state, area, .. }, page| {
+                let _ = black_box(device::discard(state, area, page));
+            },
+            |Buffers { state, area, .. }, page| {
+                let mut device = hedjosur::Device { state, spare: area };
+                let _ = black_box(device.discard(page));
+            },
+        );
     }
 }
 
 /// Times the compaction of one group.
 pub fn compaction() {
     for kind in kinds::all() {
-        let before = Lookups::new(kind, 1, 0).buffers;
+        let before = OneGroup::new(kind, 1, 0).buffers;
         time("compaction", kind.0, before, |calls, buffers| {
             assert!(buffers.compact(calls, 0).is_ok());
         });
@@ -149,12 +202,30 @@ pub fn flush_of_patterns() {
             let crowded = Buffers::crowded(&device);
             for (name, before) in [("fresh", fresh), ("crowded", crowded)] {
                 let input = format!("{name}, {}, g {bound}", pattern.0);
-                time_each("flush", &input, &before, &batches, |calls, now, batch| {
-                    assert!(now.flush(calls, batch).is_ok());
-                });
+                time_flushes(&input, &before, &batches);
             }
         }
     }
+}
+
+/// Times flushes of patterns to a new device whose logical pages are all discarded.
+pub fn flush_of_discarded() {
+    let device = full_device(17, 256, 1);
+    let mut before = Buffers::used(&device, 0);
+    for page in 0..device.logical_pages {
+        assert_eq!(before.discard(&Baseline, page), Ok(()));
+    }
+    for pattern in LEARNED {
+        let input = format!("discarded, {}, g 1", pattern.0);
+        time_flushes(&input, &before, &inputs(pattern));
+    }
+}
+
+/// Times flushes of these batches, each time to the same buffers.
+fn time_flushes(input: &str, before: &Buffers, batches: &[Vec<u32>]) {
+    time_each("flush", input, before, batches, |calls, now, batch| {
+        assert!(now.flush(calls, batch).is_ok());
+    });
 }
 
 /// This many distinct logical pages in clusters, somewhere in the middle.

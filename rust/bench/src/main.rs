@@ -20,7 +20,7 @@ use std::process::ExitCode;
 use timing::Comparison;
 
 /// What is timed, by the function's name in the table.
-const PARTS: [(&str, fn()); 13] = [
+const PARTS: [(&str, fn()); 16] = [
     ("learn", batches::learning),
     ("sort", batches::sorting),
     ("sound", groups::soundness),
@@ -28,10 +28,13 @@ const PARTS: [(&str, fn()); 13] = [
     ("insert", groups::insertion),
     ("compact", groups::compaction),
     ("lookup", calls::lookup),
+    ("lookup", calls::lookup_of_discarded),
+    ("discard", calls::discard),
     ("compaction", calls::compaction),
     ("format", calls::format),
     ("flush", calls::flush),
     ("flush", calls::flush_of_patterns),
+    ("flush", calls::flush_of_discarded),
     ("collection", calls::collection),
     ("agreement", calls::agreement),
 ];

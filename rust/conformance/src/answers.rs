@@ -25,6 +25,12 @@ impl Answers {
         std::array::from_fn(|number| self.0.values().map(|answers| answers[number]).sum())
     }
 
+    /// Of one kind, how many calls were accepted, and how many refused for each
+    /// reason.
+    pub fn of(&self, call: &str) -> Counts {
+        self.0.get(call).copied().unwrap_or_default()
+    }
+
     /// How many calls were accepted.
     pub fn accepted(&self) -> usize {
         self.totals()[0]

@@ -18,7 +18,7 @@ use crate::calls::Calls;
 use crate::inputs::damage;
 
 /// Calls of each kind on arbitrary states and spare areas, sound or damaged, with
-/// arguments and lengths of all kinds: at least 55 a round.
+/// arguments and lengths of all kinds: at least 65 a round.
 pub fn check_arbitrary_states(calls: &impl Calls, base: u64) {
     let mut answers = Answers::default();
     rounds(base, &mut answers, |random, log, answers| {
@@ -28,7 +28,7 @@ pub fn check_arbitrary_states(calls: &impl Calls, base: u64) {
         };
         let beside = &mut Beside::new(calls, log, answers);
         let (other, other_area) = arbitrary(random, &device);
-        for call in 0..8 {
+        for call in 0..9 {
             let (bytes, area) = arbitrary(random, &device);
             beside.lend(bytes, area);
             let [mut plan, mut erased] = lists(&device);
@@ -52,8 +52,16 @@ pub fn check_arbitrary_states(calls: &impl Calls, base: u64) {
                         let _ = beside.lookup(random.below(device.logical_pages));
                     }
                 }
-                5 => drop(beside.collect(&mut plan, &mut erased)),
-                6 => {
+                5 => {
+                    let _ = beside.discard(number);
+                    for _ in 0..5 {
+                        let logical_page = random.below(device.logical_pages);
+                        let _ = beside.discard(logical_page);
+                        let _ = beside.lookup(logical_page);
+                    }
+                }
+                6 => drop(beside.collect(&mut plan, &mut erased)),
+                7 => {
                     let group = random.below(device.groups() as u32 + 2);
                     let mut out = vec![0u8; LISTING_LEN];
                     resize(random, &mut out);
@@ -65,9 +73,12 @@ pub fn check_arbitrary_states(calls: &impl Calls, base: u64) {
             beside.list_all();
         }
     });
-    let met = answers.totals().iter().all(|&times| times > 0);
-    assert!(met, "{answers:?}");
-    answers.tell("arbitrary states", 55 * (base * multiplier()) as usize);
+    let met = answers.totals().map(|times| times > 0);
+    assert_eq!(met, [true; 9], "{answers:?}");
+    // It is accepted, or refused 1 to 4.
+    let met = answers.of("discard").map(|times| times > 0);
+    assert_eq!((&met[..5], &met[5..]), (&[true; 5][..], &[false; 4][..]));
+    answers.tell("arbitrary states", 65 * (base * multiplier()) as usize);
 }
 
 /// Any state of a device, with its spare area: mostly sound and of the right
@@ -203,7 +214,7 @@ pub fn check_wrong_lengths(calls: &impl Calls) {
         answers.accepted() > 0 && refused.iter().all(|&times| times > 0),
         "{answers:?}"
     );
-    answers.tell("wrong lengths", 1700 * multiplier() as usize);
+    answers.tell("wrong lengths", 1900 * multiplier() as usize);
 }
 
 /// The right lengths of plan, erased list and listing.
@@ -232,6 +243,7 @@ fn one_of_each<C: Calls>(
     beside.agree((&bytes, &area));
     beside.agree((other_bytes, other_area));
     let _ = beside.compact(0);
+    let _ = beside.discard(last);
     let _ = beside.flush(&[last, 0], &mut plan);
     beside.lend(bytes.clone(), area.clone());
     let _ = beside.collect(&mut plan, &mut erased);
@@ -273,7 +285,7 @@ pub fn check_limits(calls: &impl Calls) {
         let other = (&other.0[..], &other.1[..]);
         one_of_each(beside, &device, (bytes, area), other, list_lengths(&device));
     }
-    answers.tell("numbers at their limits", 33_000);
+    answers.tell("numbers at their limits", 44_000);
 }
 
 /// Device numbers, each at, inside and past its limits.
@@ -284,7 +296,7 @@ fn numbers_at_limits() -> impl Iterator<Item = [u32; 4]> {
     blocks.into_iter().flat_map(move |m| {
         block_pages.into_iter().flat_map(move |b| {
             let most = (m.wrapping_sub(1).wrapping_mul(b) / 2).max(1);
-            let logical_pages = [0, 1, 255, 256, most, most + 1, 1 << 31, u32::MAX];
+            let logical_pages = [0, 1, 8, 9, 255, 256, most, most + 1, 1 << 31, u32::MAX];
             logical_pages
                 .into_iter()
                 .flat_map(move |n| bounds.map(|g| [m, b, n, g]))
@@ -292,18 +304,23 @@ fn numbers_at_limits() -> impl Iterator<Item = [u32; 4]> {
     })
 }
 
+/// A device of up to three groups; mostly neither the last one is whole nor the last
+/// byte of the marks.
+pub(crate) fn uneven_device(random: &mut Random) -> Device {
+    let whole = full_device(random.between(3, 7), 256, random.below(3));
+    Device {
+        logical_pages: random.between(2, whole.logical_pages),
+        ..whole
+    }
+}
+
 /// Arguments at and past their limits: logical pages, groups and the batch's
 /// length, on a device whose last group is not whole.
 pub fn check_arguments(calls: &impl Calls) {
     let mut answers = Answers::default();
     rounds(6, &mut answers, |random, log, answers| {
-        let whole = full_device(random.between(3, 7), 256, random.below(3));
-        let logical_pages = random.between(2, whole.logical_pages);
-        let device = Device {
-            logical_pages,
-            ..whole
-        };
-        let (n, groups) = (logical_pages, device.groups() as u32);
+        let device = uneven_device(random);
+        let (n, groups) = (device.logical_pages, device.groups() as u32);
         let beside = &mut Beside::new(calls, log, answers);
         let area = vec![0; device.spare_length()];
         beside.lend(vec![0; state_bytes(&device)], area);
@@ -313,6 +330,8 @@ pub fn check_arguments(calls: &impl Calls) {
         let far = [1 << 20, 1 << 24, 1 << 31, u32::MAX];
         for page in (0..3).chain(n - 2..n + 3).chain(far) {
             let expected = (page >= n).then_some(Refusal::OutOfRange);
+            assert_eq!(beside.lookup(page).err(), expected);
+            assert_eq!(beside.discard(page).err(), expected);
             assert_eq!(beside.lookup(page).err(), expected);
         }
         for group in (0..groups + 2).chain(far) {
@@ -338,5 +357,5 @@ pub fn check_arguments(calls: &impl Calls) {
             }
         }
     });
-    answers.tell("arguments at their limits", 800 * multiplier() as usize);
+    answers.tell("arguments at their limits", 900 * multiplier() as usize);
 }

@@ -134,6 +134,21 @@ impl<'a, C: Calls> Beside<'a, C> {
         )
     }
 
+    /// Discards a logical page.
+    pub fn discard(&mut self, logical_page: u32) -> Result<(), Refusal> {
+        self.log.note(("discard", logical_page));
+        let before = self.bytes.clone();
+        let answer = self.write(
+            "discard",
+            |model| model.discard(logical_page),
+            |calls, state, area| calls.discard(state, area, logical_page),
+        );
+        let bytes = before.iter().zip(&self.bytes);
+        let changed = bytes.filter(|(before, after)| before != after).count();
+        assert!(changed <= 1, "a discard changed {changed} bytes");
+        answer
+    }
+
     /// Collects; the lists have these contents before.
     pub fn collect(&mut self, plan: &mut [u32], erased: &mut [u32]) -> Result<Collected, Refusal> {
         self.log.note(("collect", plan.len(), erased.len()));

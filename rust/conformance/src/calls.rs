@@ -20,6 +20,8 @@ pub trait Calls {
     ) -> Result<Flushed, Refusal>;
     /// Looks a logical page up.
     fn lookup(&self, state: &[u8], area: &[u32], logical_page: u32) -> Result<Lookup, Refusal>;
+    /// Discards a logical page.
+    fn discard(&self, state: &mut [u8], area: &[u32], logical_page: u32) -> Result<(), Refusal>;
     /// Collects.
     fn collect(
         &self,

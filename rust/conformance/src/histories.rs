@@ -1,6 +1,8 @@
 //! Lists of calls that start with a format: document 01's cases and script, and
 //! random ones.
 
+use std::collections::BTreeMap;
+
 use hedjosur::LISTING_LEN;
 use hedjosur_layout::state_bytes;
 use hedjosur_model::cases::{cases, LISTING, SCRIPT};
@@ -50,22 +52,22 @@ pub fn check_script(calls: &impl Calls) {
 }
 
 /// Random lists of calls, on buffers that held anything before the format: at least
-/// 150 a round. Every group is listed after every call, and at the end logical
+/// 180 a round. Every group is listed after every call, and at the end logical
 /// pages are looked up.
 pub fn check_histories(calls: &impl Calls, base: u64) {
-    let mut answers = Answers::default();
-    rounds(base, &mut answers, |random, log, answers| {
+    let mut counts = (Answers::default(), 0);
+    rounds(base, &mut counts, |random, log, (answers, emptied)| {
         let device = match random.below(3) {
             0 => full_device(random.between(4, 9), 64, random.below(16)),
             1 => full_device(random.between(3, 7), 256, random.below(16)),
             _ => small_device(random),
         };
         let mut beside = Beside::new(calls, log, answers);
-        let bytes = (0..state_bytes(&device)).map(|_| random.bits() as u8);
-        beside.lend(bytes.collect(), any_area(random, &device));
-        assert_eq!(beside.format(device.numbers()), Ok(()));
-        history(&mut beside, &device, random);
+        lend_anything(&mut beside, &device, random);
+        *emptied += history(&mut beside, &device, random);
     });
+    let (answers, emptied) = counts;
+    assert!(emptied > 0, "no collection had nothing to move");
     // From a format, 3 and 7 never occur; 1, 2 and 5 need other arguments.
     let refused = |why| answers.refused(why);
     let [no_free, no_gain] = [Refusal::NoFreeBlock, Refusal::NothingToGain].map(refused);
@@ -74,32 +76,101 @@ pub fn check_histories(calls: &impl Calls, base: u64) {
         "{answers:?}"
     );
     assert_eq!([Refusal::NotSound, Refusal::NotNamed].map(refused), [0, 0]);
-    answers.tell("histories", 150 * (base * multiplier()) as usize);
+    answers.tell("histories", 180 * (base * multiplier()) as usize);
 }
 
-/// Calls of all kinds on a formatted device.
-fn history<C: Calls>(beside: &mut Beside<C>, device: &Device, random: &mut Random) {
+/// Devices with the same lengths of state and spare area, formatted one after the
+/// other in the same buffers, with calls of all kinds after each.
+pub fn check_shared_lengths(calls: &impl Calls) {
+    let mut answers = Answers::default();
+    let alike = devices_alike();
+    rounds(30, &mut answers, |random, log, answers| {
+        let devices = &alike[random.below(alike.len() as u32) as usize];
+        let mut beside = Beside::new(calls, log, answers);
+        lend_anything(&mut beside, &devices[0], random);
+        for _ in 0..4 {
+            history(&mut beside, &random.pick(devices), random);
+        }
+    });
+    answers.tell("devices of one length", 12_000 * multiplier() as usize);
+}
+
+/// Small devices by the lengths of their state and their spare area, where some have
+/// more blocks than others. What they have more of counts they have less of marks.
+fn devices_alike() -> Vec<Vec<Device>> {
+    let mut alike: BTreeMap<[usize; 2], Vec<Device>> = BTreeMap::new();
+    for (blocks, block_pages) in (3..=8).flat_map(|m| (4..=24).map(move |b| (m, b))) {
+        for bound in 0..=2 {
+            let full = full_device(blocks, block_pages, bound);
+            for logical_pages in 1..=full.logical_pages {
+                let device = Device {
+                    logical_pages,
+                    ..full
+                };
+                let lengths = [state_bytes(&device), device.spare_length()];
+                alike.entry(lengths).or_default().push(device);
+            }
+        }
+    }
+    let differ = |devices: &Vec<Device>| devices[0].blocks != devices[devices.len() - 1].blocks;
+    alike.into_values().filter(differ).collect()
+}
+
+/// Lends buffers of a device that hold anything.
+fn lend_anything<C: Calls>(beside: &mut Beside<C>, device: &Device, random: &mut Random) {
+    let bytes = (0..state_bytes(device)).map(|_| random.bits() as u8);
+    beside.lend(bytes.collect(), any_area(random, device));
+}
+
+/// A format and calls of all kinds. Answers how many collections had nothing to move.
+fn history<C: Calls>(beside: &mut Beside<C>, device: &Device, random: &mut Random) -> usize {
+    assert_eq!(beside.format(device.numbers()), Ok(()));
     let mut earlier = beside.lent();
+    let mut emptied = 0;
     for _ in 0..40 {
         let [mut plan, mut erased] = lists(device);
-        match random.below(12) {
-            0..=5 => {
-                let batch = batch(random, device);
-                if beside.flush(&batch, &mut plan).is_err() {
-                    let _ = beside.collect(&mut plan, &mut erased);
-                }
+        match random.below(14) {
+            0..=5 => flush(beside, device, random),
+            6 => {
+                let collected = beside.collect(&mut plan, &mut erased);
+                emptied += usize::from(collected.is_ok_and(|collected| collected.count == 0));
             }
-            6 => drop(beside.collect(&mut plan, &mut erased)),
             7 => drop(beside.compact(random.below(device.groups() as u32 + 1))),
             8 => beside.agree((&earlier.0, &earlier.1)),
             9 => earlier = beside.lent(),
             10 if random.once_in(8) => assert_eq!(beside.format(device.numbers()), Ok(())),
+            11 | 12 => discard(beside, device, random),
             _ => drop(beside.lookup(random.below(device.logical_pages))),
         }
         beside.list_all();
     }
     for _ in 0..device.logical_pages.min(100) {
         let _ = beside.lookup(random.below(device.logical_pages));
+    }
+    emptied
+}
+
+/// A flush; where it is refused, a collection and the same flush again, with discards
+/// between.
+fn flush<C: Calls>(beside: &mut Beside<C>, device: &Device, random: &mut Random) {
+    let [mut plan, mut erased] = lists(device);
+    let batch = batch(random, device);
+    if beside.flush(&batch, &mut plan).is_err() {
+        discard(beside, device, random);
+        assert!(beside.collect(&mut plan, &mut erased).is_ok());
+        discard(beside, device, random);
+        assert!(beside.flush(&batch, &mut plan).is_ok());
+    }
+}
+
+/// Discards logical pages that follow each other: none, one, a few, or all of a small
+/// device.
+fn discard<C: Calls>(beside: &mut Beside<C>, device: &Device, random: &mut Random) {
+    let logical_pages = device.logical_pages;
+    let first = random.below(logical_pages);
+    let count = random.pick(&[0, 0, 1, 1, 1, 8, 32]);
+    for number in 0..logical_pages.min(count) {
+        assert_eq!(beside.discard((first + number) % logical_pages), Ok(()));
     }
 }
 
@@ -159,8 +230,8 @@ fn is_compacted_for_room<C: Calls>(
     false
 }
 
-/// The largest device: flushes until a few of its blocks are used, lookups, a
-/// compaction and a collection, at its first, last and other logical pages.
+/// The largest device: flushes until a few of its blocks are used, lookups, discards,
+/// a compaction and a collection, at its first, last and other logical pages.
 pub fn check_largest_device(calls: &impl Calls) {
     let mut answers = Answers::default();
     rounds(1, &mut answers, |random, log, answers| {
@@ -188,6 +259,11 @@ pub fn check_largest_device(calls: &impl Calls) {
             let group = group_of(batch[0]) as u32;
             assert!(beside.list(group, LISTING_LEN).is_ok());
         }
+        for logical_page in [0, last, last - 8] {
+            assert_eq!(beside.discard(logical_page), Ok(()));
+            assert!(beside.lookup(logical_page).is_ok());
+        }
+        assert_eq!(beside.discard(last + 1), Err(Refusal::OutOfRange));
         let groups = device.groups() as u32;
         assert!(beside.compact(groups - 1).is_ok());
         assert_eq!(beside.compact(groups), Err(Refusal::OutOfRange));

@@ -11,6 +11,7 @@
 //! - [`histories`]: lists of calls that start with a format
 //! - [`arguments`]: calls on arbitrary states, with arguments and lengths of all
 //!   kinds
+//! - [`marks`]: discards on marks that hold anything
 //! - [`scripts`]: random scripts for the listing program
 //!
 //! The environment variable `HEDJOSUR_ROUNDS` multiplies the rounds of every check.
@@ -26,5 +27,6 @@ pub mod calls;
 pub mod groups;
 pub mod histories;
 pub mod inputs;
+pub mod marks;
 pub mod scripts;
 pub mod subjects;

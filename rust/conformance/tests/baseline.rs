@@ -1,7 +1,7 @@
 //! The baseline against the model.
 
 use hedjosur_conformance::subjects::Baseline;
-use hedjosur_conformance::{arguments, batches, groups, histories};
+use hedjosur_conformance::{arguments, batches, groups, histories, marks};
 
 #[test]
 fn sorting() {
@@ -51,6 +51,16 @@ fn random_histories() {
 #[test]
 fn arbitrary_states() {
     arguments::check_arbitrary_states(&Baseline, 300);
+}
+
+#[test]
+fn marks_that_hold_anything() {
+    marks::check_marks(&Baseline);
+}
+
+#[test]
+fn devices_of_one_length() {
+    histories::check_shared_lengths(&Baseline);
 }
 
 #[test]

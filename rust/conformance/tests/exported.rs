@@ -2,7 +2,7 @@
 //! wrapper. Each check tells how many calls it made without a difference.
 
 use hedjosur_conformance::subjects::Exported;
-use hedjosur_conformance::{arguments, histories};
+use hedjosur_conformance::{arguments, histories, marks};
 
 #[test]
 fn cases() {
@@ -17,6 +17,16 @@ fn script() {
 #[test]
 fn random_histories() {
     histories::check_histories(&Exported, 2200);
+}
+
+#[test]
+fn devices_of_one_length() {
+    histories::check_shared_lengths(&Exported);
+}
+
+#[test]
+fn marks_that_hold_anything() {
+    marks::check_marks(&Exported);
 }
 
 #[test]

@@ -73,7 +73,7 @@ static enum hedjosur_refusal gateway_write(const uint32_t *batch, uint8_t (*data
     return refusal;
 }
 
-/* Reads a logical page; data gets NULL where it was never written. */
+/* Reads a logical page; data gets NULL where it was never written, or was discarded. */
 static enum hedjosur_refusal gateway_read(uint32_t logical_page, const uint8_t **data)
 {
     struct hedjosur_place place;
@@ -81,6 +81,12 @@ static enum hedjosur_refusal gateway_read(uint32_t logical_page, const uint8_t *
     if (refusal == HEDJOSUR_ACCEPTED)
         *data = place.found ? chip_read(place.page) : NULL;
     return refusal;
+}
+
+/* Discards a logical page: nothing is read there until it is written again. */
+static enum hedjosur_refusal gateway_discard(uint32_t logical_page)
+{
+    return hedjosur_device_discard(&device, logical_page);
 }
 
 /*
@@ -144,12 +150,13 @@ static void report(uint8_t *bytes, uint32_t flat, uint32_t hour)
 
 /*
  * Eight flats report each hour for 100 days, each time in another order. A flat has 16
- * logical pages, which it fills over and over. In the end each logical page is read
- * and compared with what was last written to it.
+ * logical pages, which it fills over and over. Then the people of one flat move out, and
+ * the billing office drops its readings. In the end each logical page is read and
+ * compared with what was last written to it; of that flat there is nothing to read.
  */
 int main(void)
 {
-    enum { FLATS = 8, RING = LOGICAL_PAGES / FLATS };
+    enum { FLATS = 8, MOVED_OUT = 5, RING = LOGICAL_PAGES / FLATS };
     static uint8_t data[BLOCK_PAGES][PAGE], written[LOGICAL_PAGES][PAGE];
     uint32_t batch[BLOCK_PAGES];
     const uint8_t *found = NULL;
@@ -172,9 +179,13 @@ int main(void)
     if (count > 0)
         accepted(gateway_write(batch, data, count));
 
+    for (uint32_t i = 0; i < RING; i++)
+        accepted(gateway_discard(MOVED_OUT * RING + i));
+
     for (uint32_t page = 0; page < LOGICAL_PAGES; page++) {
+        const uint8_t *wanted = page / RING == MOVED_OUT ? NULL : written[page];
         accepted(gateway_read(page, &found));
-        if (!found || memcmp(found, written[page], PAGE) != 0) {
+        if (!found != !wanted || (wanted && memcmp(found, wanted, PAGE) != 0)) {
             fprintf(stderr, "logical page %u is another one\n", (unsigned)page);
             return 1;
         }

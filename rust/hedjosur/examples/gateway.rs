@@ -57,10 +57,15 @@ impl Gateway {
         Ok(())
     }
 
-    /// Reads a logical page, `None` where it was never written.
+    /// Reads a logical page, `None` where it was never written, or was discarded.
     fn read(&self, logical_page: u32) -> Result<Option<Page>, Refusal> {
         let page = self.device.lookup(logical_page)?.page();
         Ok(page.map(|page| self.chip.read(page)))
+    }
+
+    /// Discards a logical page: nothing is read there until it is written again.
+    fn discard(&mut self, logical_page: u32) -> Result<(), Refusal> {
+        self.device.discard(logical_page)
     }
 
     /// Frees blocks: copies pages by the plan, ascending, then erases what is listed.
@@ -140,10 +145,12 @@ fn report(flat: u32, hour: u32) -> [u8; REPORT] {
 }
 
 /// Eight flats report each hour for 100 days, each time in another order. A flat has
-/// 16 logical pages, which it fills over and over. In the end each logical page is
-/// read and compared with what was last written to it.
+/// 16 logical pages, which it fills over and over. Then the people of one flat move
+/// out, and the billing office drops its readings. In the end each logical page is read
+/// and compared with what was last written to it; of that flat there is nothing to read.
 pub fn main() -> Result<(), Refusal> {
     const FLATS: u32 = 8;
+    const MOVED_OUT: u32 = 5;
     const RING: u32 = NUMBERS.logical_pages / FLATS;
     let mut gateway = Gateway::open(Chip::new())?;
     let mut written = vec![None; NUMBERS.logical_pages as usize];
@@ -170,6 +177,11 @@ pub fn main() -> Result<(), Refusal> {
     }
     if !batch.is_empty() {
         gateway.write(&batch, &data)?;
+    }
+
+    for logical_page in MOVED_OUT * RING..(MOVED_OUT + 1) * RING {
+        gateway.discard(logical_page)?;
+        written[logical_page as usize] = None;
     }
 
     for (logical_page, wanted) in (0..).zip(&written) {

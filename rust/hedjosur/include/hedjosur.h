@@ -50,6 +50,10 @@
  * 1, ascending, page first_page + i with the data of arrival plan[i] of the batch. The
  * block was erased before: a flush always opens one, and adds to none.
  *
+ * AFTER AN ACCEPTED DISCARD there is nothing to do: only the state changes. What the
+ * page holds stays on the chip until a collection has its block erased. A write that
+ * the driver keeps waiting is not dropped: its flush writes the page again.
+ *
  * AFTER A FLUSH REFUSED HEDJOSUR_NO_FREE_BLOCK the driver makes a collection, which is
  * then accepted, and the same flush again, which is then accepted too: one collection
  * always helps. AFTER AN ACCEPTED COLLECTION it copies page plan[i] to page first_page
@@ -101,9 +105,9 @@ extern "C" {
 #endif
 
 /* The version of this header, of the Rust crate and of the archive's interface. */
-#define HEDJOSUR_VERSION "0.1.0"
+#define HEDJOSUR_VERSION "0.2.0"
 #define HEDJOSUR_VERSION_MAJOR 0
-#define HEDJOSUR_VERSION_MINOR 1
+#define HEDJOSUR_VERSION_MINOR 2
 #define HEDJOSUR_VERSION_PATCH 0
 
 /* The version that the caller was compiled with. */
@@ -171,7 +175,8 @@ static inline const char *hedjosur_refusal_text(enum hedjosur_refusal refusal)
 #define HEDJOSUR_GROUPS(n) (((size_t)(n) + 255) / 256)
 #define HEDJOSUR_STATE_LEN(m, b, n, g)                                                   \
     (HEDJOSUR_IS_DEVICE(m, b, n, g)                                                      \
-         ? 16 + 2 * (size_t)(m) + 5636 * HEDJOSUR_GROUPS(n) : (size_t)0)
+         ? 16 + 2 * (size_t)(m) + ((size_t)(n) + 7) / 8 + 5636 * HEDJOSUR_GROUPS(n)      \
+         : (size_t)0)
 #define HEDJOSUR_SPARE_LEN(m, b, n, g)                                                   \
     (HEDJOSUR_IS_DEVICE(m, b, n, g)                                                      \
          ? (size_t)(m) * (size_t)(b) * (2 * (size_t)(g) + 1) : (size_t)0)
@@ -183,6 +188,7 @@ static inline const char *hedjosur_refusal_text(enum hedjosur_refusal refusal)
 #define HEDJOSUR_STACK_FORMAT 256
 #define HEDJOSUR_STACK_FLUSH 12288
 #define HEDJOSUR_STACK_LOOKUP 1024
+#define HEDJOSUR_STACK_DISCARD 1024
 #define HEDJOSUR_STACK_COLLECT 20480
 #define HEDJOSUR_STACK_COMPACT 2048
 #define HEDJOSUR_STACK_AGREE 2048
@@ -227,12 +233,22 @@ uint64_t hedjosur_flush(uint8_t *state, size_t state_len,
 
 /*
  * Looks a logical page up. Answers hedjosur_found; hedjosur_page and
- * hedjosur_predicted where it is found; hedjosur_levels and hedjosur_reads.
- * Refuses 1, 2, 4, 3 for the page's group, and 7.
+ * hedjosur_predicted where it is found; hedjosur_levels and hedjosur_reads. A
+ * discarded page isn't found, with 0 levels. Refuses 1, 2, 4, 3 for the page's
+ * group, and 7.
  */
 uint64_t hedjosur_lookup(const uint8_t *state, size_t state_len,
                          const uint32_t *spare, size_t spare_len,
                          uint32_t page);
+
+/*
+ * Discards a logical page, whether it was written or not: from now on a lookup
+ * doesn't find it and a collection leaves its page behind, until a flush writes it
+ * again. Answers nothing but the refusal: 1, 2, 4, and 3 for the page's group.
+ */
+uint64_t hedjosur_discard(uint8_t *state, size_t state_len,
+                          const uint32_t *spare, size_t spare_len,
+                          uint32_t page);
 
 /*
  * Collects the used blocks with the fewest valid pages. The plan has b entries and
@@ -304,7 +320,7 @@ static inline uint32_t hedjosur_erased(uint64_t answer)
     return hedjosur_bits_of(answer, 40, 0xFFFFF);
 }
 
-/* A lookup: 1 where the logical page was written, 0 where it was not. */
+/* A lookup: 1 where the logical page was written, 0 where it was not, or was discarded. */
 static inline int hedjosur_found(uint64_t answer)
 {
     return (int)hedjosur_bits_of(answer, 56, 1);
@@ -363,7 +379,10 @@ struct hedjosur_flushed {
     uint32_t count;
 };
 
-/* Where a logical page is: found is 1 where it was written, else 0, as are the pages. */
+/*
+ * Where a logical page is: found is 1 where it was written, 0 where it was not, or was
+ * discarded; then the pages are 0.
+ */
 struct hedjosur_place {
     uint32_t page;
     uint32_t predicted;
@@ -416,6 +435,15 @@ static inline enum hedjosur_refusal hedjosur_device_lookup(
         place->found = hedjosur_found(answer);
     }
     return hedjosur_refusal_of(answer);
+}
+
+/* hedjosur_discard. */
+HEDJOSUR_LOOK_AT_IT
+static inline enum hedjosur_refusal hedjosur_device_discard(
+    const struct hedjosur_device *device, uint32_t page)
+{
+    return hedjosur_refusal_of(hedjosur_discard(device->state, device->state_len,
+                                                device->spare, device->spare_len, page));
 }
 
 /* hedjosur_collect. The driver then copies pages by the plan and erases blocks. */

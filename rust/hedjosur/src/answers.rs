@@ -23,9 +23,9 @@ pub enum Lookup {
         /// How many levels of its group were looked at.
         levels: u32,
     },
-    /// It was not written since the format.
+    /// It was not written since the format, or it was discarded since its last write.
     NotWritten {
-        /// How many levels its group has.
+        /// How many levels its group has; 0 where it was discarded.
         levels: u32,
     },
 }

@@ -42,6 +42,14 @@ extern "C" {
         page: u32,
     ) -> u64;
 
+    fn hedjosur_discard(
+        state: *mut u8,
+        state_len: usize,
+        spare: *const u32,
+        spare_len: usize,
+        page: u32,
+    ) -> u64;
+
     fn hedjosur_collect(
         state: *mut u8,
         state_len: usize,
@@ -130,6 +138,20 @@ pub(crate) fn lookup(state: &[u8], spare: &[u32], page: u32) -> u64 {
     unsafe {
         hedjosur_lookup(
             state.as_ptr(),
+            state.len(),
+            spare.as_ptr(),
+            spare.len(),
+            page,
+        )
+    }
+}
+
+#[inline]
+pub(crate) fn discard(state: &mut [u8], spare: &[u32], page: u32) -> u64 {
+    // SAFETY: two borrowed slices, the first for writing.
+    unsafe {
+        hedjosur_discard(
+            state.as_mut_ptr(),
             state.len(),
             spare.as_ptr(),
             spare.len(),

@@ -4,7 +4,7 @@ use crate::answers::accepted;
 use crate::{boundary, Collected, Flushed, Listing, Lookup, Refusal};
 
 /// The state's parts, as docs/LAYOUT.md fixes them: the device numbers, a block's
-/// count, a group.
+/// count, a group. Between counts and groups stand the discard marks, a bit each.
 const HEAD_LEN: usize = 16;
 const COUNT_LEN: usize = 2;
 const GROUP_LEN: usize = 5636;
@@ -22,7 +22,7 @@ const GROUP_PAGES: u32 = 256;
 ///     Numbers { blocks: 3, block_pages: 4, logical_pages: 4, error_bound: 0 };
 /// const STATE: usize = NUMBERS.state_len().expect("numbers inside their limits");
 /// const SPARE: usize = NUMBERS.spare_len().expect("numbers inside their limits");
-/// assert_eq!((STATE, SPARE), (5658, 12));
+/// assert_eq!((STATE, SPARE), (5659, 12));
 /// let mut device = Device { state: [0; STATE], spare: [0; SPARE] };
 /// device.format(NUMBERS)?;
 /// # Ok::<(), hedjosur::Refusal>(())
@@ -57,6 +57,7 @@ impl Numbers {
             true => Some(
                 HEAD_LEN
                     + COUNT_LEN * self.blocks as usize
+                    + self.logical_pages.div_ceil(8) as usize
                     + GROUP_LEN * self.logical_pages.div_ceil(GROUP_PAGES) as usize,
             ),
             false => None,
@@ -131,7 +132,7 @@ impl Numbers {
 ///
 /// // The smallest device, in arrays of its own.
 /// let numbers = Numbers { blocks: 3, block_pages: 4, logical_pages: 4, error_bound: 0 };
-/// let mut device = Device { state: [0; 5658], spare: [0; 12] };
+/// let mut device = Device { state: [0; 5659], spare: [0; 12] };
 /// device.format(numbers)?;
 ///
 /// // The third flush finds one free block left, which is kept for a collection.
@@ -150,7 +151,8 @@ impl Numbers {
 /// ```
 #[derive(Clone, Debug, PartialEq, Eq)]
 pub struct Device<S, P> {
-    /// The state: the device numbers, the blocks' counts and the groups.
+    /// The state: the device numbers, the blocks' counts, the discard marks and the
+    /// groups.
     pub state: S,
     /// The spare area: 2g + 1 entries of 32 bits for each page, page after page.
     /// Entry j of page p names the logical page that was written at p − g + j.
@@ -158,7 +160,7 @@ pub struct Device<S, P> {
 }
 
 impl<S: AsMut<[u8]>, P: AsMut<[u32]>> Device<S, P> {
-    /// Formats the device, whatever its buffers held: no page is written.
+    /// Formats the device, whatever its buffers held: no page is written or discarded.
     ///
     /// Refuses [`BadNumbers`](Refusal::BadNumbers), then
     /// [`BadLength`](Refusal::BadLength) where the state or the spare area hasn't
@@ -183,7 +185,7 @@ impl<S: AsMut<[u8]>, P: AsMut<[u32]>> Device<S, P> {
     /// ```
     /// # use hedjosur::{Device, Flushed, Numbers};
     /// # let numbers = Numbers { blocks: 9, block_pages: 64, logical_pages: 256, error_bound: 1 };
-    /// # let mut device = Device { state: [0; 5670], spare: [0; 1728] };
+    /// # let mut device = Device { state: [0; 5702], spare: [0; 1728] };
     /// # device.format(numbers)?;
     /// let mut plan = [0; 64];
     /// let flushed = device.flush(&[7, 7], &mut plan)?;
@@ -216,6 +218,35 @@ impl<S: AsMut<[u8]>, P: AsMut<[u32]>> Device<S, P> {
     }
 }
 
+impl<S: AsMut<[u8]>, P: AsRef<[u32]>> Device<S, P> {
+    /// Discards a logical page, whether it was written or not: from now on a lookup
+    /// says 'not written' and a collection leaves its page behind, until a flush
+    /// writes it again. A mark in the state is all that changes; what the page holds
+    /// stays on the chip until its block is erased.
+    ///
+    /// Refuses, in this order, [`BadNumbers`](Refusal::BadNumbers),
+    /// [`BadLength`](Refusal::BadLength), [`OutOfRange`](Refusal::OutOfRange) and
+    /// [`NotSound`](Refusal::NotSound) for the page's group.
+    ///
+    /// ```
+    /// # use hedjosur::{Device, Lookup, Numbers};
+    /// # let numbers = Numbers { blocks: 9, block_pages: 64, logical_pages: 256, error_bound: 1 };
+    /// # let mut device = Device { state: [0; 5702], spare: [0; 1728] };
+    /// # device.format(numbers)?;
+    /// device.flush(&[7, 8], &mut [0; 64])?;
+    /// device.discard(7)?;
+    /// assert_eq!(device.lookup(7)?, Lookup::NotWritten { levels: 0 });
+    /// assert_eq!(device.lookup(8)?.page(), Some(1));
+    /// device.flush(&[7], &mut [0; 64])?;
+    /// assert_eq!(device.lookup(7)?.page(), Some(64));
+    /// # Ok::<(), hedjosur::Refusal>(())
+    /// ```
+    pub fn discard(&mut self, logical_page: u32) -> Result<(), Refusal> {
+        let (state, spare) = (self.state.as_mut(), self.spare.as_ref());
+        accepted(boundary::discard(state, spare, logical_page)).map(drop)
+    }
+}
+
 impl<S: AsMut<[u8]>, P> Device<S, P> {
     /// Compacts a group: drops what newer records hide. Answers how many records
     /// are left. No lookup finds another page after it.
@@ -230,7 +261,7 @@ impl<S: AsMut<[u8]>, P> Device<S, P> {
 }
 
 impl<S: AsRef<[u8]>, P: AsRef<[u32]>> Device<S, P> {
-    /// Looks a logical page up.
+    /// Looks a logical page up; a discarded one is 'not written'.
     ///
     /// Refuses, in this order, [`BadNumbers`](Refusal::BadNumbers),
     /// [`BadLength`](Refusal::BadLength), [`OutOfRange`](Refusal::OutOfRange),
@@ -252,7 +283,7 @@ impl<S: AsRef<[u8]>, P: AsRef<[u32]>> Device<S, P> {
     /// ```
     /// # use hedjosur::{Device, Numbers};
     /// # let numbers = Numbers { blocks: 3, block_pages: 4, logical_pages: 4, error_bound: 0 };
-    /// # let mut device = Device { state: [0; 5658], spare: [0; 12] };
+    /// # let mut device = Device { state: [0; 5659], spare: [0; 12] };
     /// # device.format(numbers)?;
     /// let before = device.clone();
     /// device.compact(0)?;
@@ -284,7 +315,7 @@ impl<S: AsRef<[u8]>, P> Device<S, P> {
     /// ```
     /// # use hedjosur::{Device, Numbers};
     /// # let numbers = Numbers { blocks: 9, block_pages: 64, logical_pages: 256, error_bound: 0 };
-    /// # let mut device = Device { state: [0; 5670], spare: [0; 576] };
+    /// # let mut device = Device { state: [0; 5702], spare: [0; 576] };
     /// # device.format(numbers)?;
     /// device.flush(&[100, 102, 104, 106], &mut [0; 64])?;
     /// let mut buffer = [0; hedjosur::LISTING_LEN];
@@ -313,7 +344,8 @@ mod tests {
                     let most = u64::from(blocks.saturating_sub(1)) * u64::from(block_pages) / 2;
                     let most = most.min(u64::from(u32::MAX)) as u32;
                     let beside = [most.saturating_sub(1), most, most.saturating_add(1)];
-                    for logical_pages in [0, 1, 255, 256, 257, u32::MAX].into_iter().chain(beside) {
+                    let few = [0, 1, 7, 8, 9, 255, 256, 257, u32::MAX];
+                    for logical_pages in few.into_iter().chain(beside) {
                         let numbers = Numbers {
                             blocks,
                             block_pages,

@@ -9,6 +9,7 @@
 //!   to write them, in which order;
 //! - [`Device::lookup`] answers on which page a logical page is, after at most two
 //!   flash reads;
+//! - [`Device::discard`] drops a logical page, until a flush writes it again;
 //! - [`Device::collect`] frees blocks and answers which pages to copy first;
 //! - [`Device::compact`] and [`Device::list`] tidy and show one group's records;
 //! - [`Device::agree`] compares two tables.
@@ -56,6 +57,9 @@
 //!   driver once the pages are copied.
 //! - **A flush refused [`NoFreeBlock`](Refusal::NoFreeBlock)** succeeds after one
 //!   [`Device::collect`], always.
+//! - **A discard** changes the state alone. What the page holds stays on the chip until
+//!   a collection has its block erased, and a write that the driver keeps waiting is
+//!   not dropped: its flush writes the page again.
 //! - **What it doesn't do:** nothing is kept across a power loss but what the driver
 //!   stores of the two buffers; bad blocks are not known; wear is not levelled, the
 //!   lowest free block is always taken.

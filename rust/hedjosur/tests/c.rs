@@ -123,5 +123,5 @@ fn the_gateway_in_c() {
 fn the_stack_of_each_call() {
     let printed = ran(C11, &["-pthread", "-Wl,-z,now"], "tests/stack.c");
     println!("bytes of stack, measured and allowed:\n{printed}");
-    assert_eq!(printed.lines().count(), 8);
+    assert_eq!(printed.lines().count(), 9);
 }

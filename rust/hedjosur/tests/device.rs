@@ -83,6 +83,44 @@ fn reads_are_counted_from_the_answer() {
     }
 }
 
+/// Until it is written again, whatever is called between; and one that was never
+/// written.
+#[test]
+fn a_discarded_page() {
+    let mut device = formatted(SMALLEST);
+    let (mut plan, mut erased) = ([9; 4], [9; 3]);
+    let discarded = Lookup::NotWritten { levels: 0 };
+    for batch in [[0, 1], [1, 2]] {
+        device.flush(&batch, &mut plan).expect("an accepted flush");
+    }
+    plan.fill(9);
+    assert_eq!(device.discard(4), Err(Refusal::OutOfRange));
+    let before = device.clone();
+    for logical_page in [1, 3, 1] {
+        assert_eq!(device.discard(logical_page), Ok(()));
+        assert_eq!(device.lookup(logical_page), Ok(discarded));
+    }
+    assert_eq!(device.spare, before.spare);
+    assert_eq!((discarded.page(), discarded.reads()), (None, 0));
+    // Two bits of the marks' one byte, which stands between counts and group.
+    let marked = Vec::from_iter((0..5659).filter(|&at| device.state[at] != before.state[at]));
+    assert_eq!((marked, device.state[22]), (vec![22], 0b1010));
+
+    assert_eq!(device.flush(&[0], &mut plan), Err(Refusal::NoFreeBlock));
+    let moved = Collected {
+        first_page: 8,
+        count: 2,
+        erased: 2,
+    };
+    assert_eq!(device.collect(&mut plan, &mut erased), Ok(moved));
+    assert_eq!((plan, erased), ([0, 5, 9, 9], [0, 1, 9]));
+    assert_eq!(device.lookup(1), Ok(discarded));
+    let flushed = device.flush(&[1], &mut plan).expect("an accepted flush");
+    assert_eq!(flushed.first_page, 0);
+    assert_eq!(device.lookup(1), found(0, 0, 1));
+    assert_eq!(device.lookup(3), Ok(discarded));
+}
+
 /// The first call that is refused for each reason, with what a person reads.
 #[test]
 fn every_refusal() {
@@ -164,10 +202,10 @@ fn a_refusal_is_an_error() {
 #[test]
 fn buffers_of_all_kinds() {
     let mut arrays = Device {
-        state: [1; 5658],
+        state: [1; 5659],
         spare: [1; 12],
     };
-    let (mut state, mut spare) = (vec![2; 5658], vec![2; 12]);
+    let (mut state, mut spare) = (vec![2; 5659], vec![2; 12]);
     let mut borrowed = Device {
         state: &mut state[..],
         spare: &mut spare[..],
@@ -195,6 +233,13 @@ fn buffers_of_all_kinds() {
         spare: &spare[..],
     };
     assert_eq!(read_only.lookup(3), found(11, 11, 1));
+    // A discard only reads the spare area.
+    let mut discarding = Device {
+        state: state.clone(),
+        spare: &spare[..],
+    };
+    assert_eq!(discarding.discard(3), Ok(()));
+    assert_eq!(discarding.lookup(3), Ok(Lookup::NotWritten { levels: 0 }));
     // Neither compaction nor a listing needs the spare area.
     let mut buffer = [0; LISTING_LEN];
     let mut without_spare = Device { state, spare: () };

@@ -40,6 +40,7 @@ void _start(void)
     answer = hedjosur_format(3, 4, 4, 0, state, sizeof state, spare, 12);
     answer = hedjosur_flush(state, sizeof state, spare, 12, plan, 1, plan + 1, 3);
     answer = hedjosur_lookup(state, sizeof state, spare, 12, 0);
+    answer = hedjosur_discard(state, sizeof state, spare, 12, 0);
     answer = hedjosur_collect(state, sizeof state, spare, 12, plan, 4, erased, 3);
     answer = hedjosur_compact(state, sizeof state, 0);
     answer = hedjosur_agree(state, sizeof state, spare, 12, state, sizeof state, spare, 12);

@@ -43,9 +43,10 @@ static int lengths(void)
             for (k = 0; k < COUNT(bounds); k++) {
                 uint32_t m = blocks[i], b = pages[j], g = bounds[k];
                 uint32_t most = (uint32_t)(((uint64_t)m - 1) * b / 2);
-                uint32_t logical[7];
-                logical[0] = 0, logical[1] = 1, logical[2] = 256, logical[3] = 257;
-                logical[4] = most, logical[5] = most + 1, logical[6] = 0xFFFFFFFF;
+                uint32_t logical[9];
+                logical[0] = 0, logical[1] = 1, logical[2] = 8, logical[3] = 9;
+                logical[4] = 256, logical[5] = 257, logical[6] = most;
+                logical[7] = most + 1, logical[8] = 0xFFFFFFFF;
                 for (l = 0; l < COUNT(logical); l++) {
                     uint32_t n = logical[l];
                     CHECK(HEDJOSUR_STATE_LEN(m, b, n, g) == hedjosur_state_len(m, b, n, g));
@@ -92,6 +93,11 @@ static int calls(void)
     CHECK(records == 1 && out[0] == 0 && out[4] == 8);
     CHECK(hedjosur_device_agree(&device, &device, &yes) == HEDJOSUR_ACCEPTED && yes == 1);
     CHECK(hedjosur_device_agree(&device, &other, &yes) == HEDJOSUR_ACCEPTED && yes == 0);
+    CHECK(hedjosur_device_discard(&device, 4) == HEDJOSUR_OUT_OF_RANGE);
+    CHECK(hedjosur_device_discard(&device, 0) == HEDJOSUR_ACCEPTED);
+    CHECK(hedjosur_device_lookup(&device, 0, &place) == HEDJOSUR_ACCEPTED);
+    CHECK(!place.found && place.page == 0 && place.predicted == 0 && place.levels == 0);
+    CHECK(hedjosur_device_agree(&device, &other, &yes) == HEDJOSUR_ACCEPTED && yes == 1);
     return 0;
 }
 

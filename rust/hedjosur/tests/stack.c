@@ -19,7 +19,7 @@
 #define PAINT UINT64_C(0x5AA5C33C0FF0F00F)
 
 /* The calls, in the order of the header. */
-enum call { LEN, FORMAT, FLUSH, LOOKUP, COLLECT, COMPACT, AGREE, LIST, CALLS };
+enum call { LEN, FORMAT, FLUSH, LOOKUP, DISCARD, COLLECT, COMPACT, AGREE, LIST, CALLS };
 
 static const struct {
     const char *name;
@@ -29,6 +29,7 @@ static const struct {
     [FORMAT] = {"format", HEDJOSUR_STACK_FORMAT},
     [FLUSH] = {"flush", HEDJOSUR_STACK_FLUSH},
     [LOOKUP] = {"lookup", HEDJOSUR_STACK_LOOKUP},
+    [DISCARD] = {"discard", HEDJOSUR_STACK_DISCARD},
     [COLLECT] = {"collect", HEDJOSUR_STACK_COLLECT},
     [COMPACT] = {"compact", HEDJOSUR_STACK_COMPACT},
     [AGREE] = {"agree", HEDJOSUR_STACK_AGREE},
@@ -127,6 +128,7 @@ static void history(uint32_t m, uint32_t b, uint32_t g, int flushes)
             exit(1);
         }
         MEASURED(LOOKUP, hedjosur_lookup(state, state_len, spare, spare_len, below(n)));
+        MEASURED(DISCARD, hedjosur_discard(state, state_len, spare, spare_len, below(n)));
         MEASURED(LIST, hedjosur_list(state, state_len, below(n) / 256, listing, sizeof listing));
         if (i % 16 == 15) {
             MEASURED(AGREE, hedjosur_agree(state, state_len, spare, spare_len,

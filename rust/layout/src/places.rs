@@ -37,10 +37,16 @@ pub fn state_bytes(device: &Device) -> usize {
     groups_at(device) + GROUP_BYTES * device.groups()
 }
 
-/// Where a device's groups begin.
+/// Where a device's discard marks begin, behind its counts.
+#[inline]
+pub fn marks_at(device: &Device) -> usize {
+    HEAD_BYTES + COUNT_BYTES * device.blocks as usize
+}
+
+/// Where a device's groups begin, behind its discard marks.
 #[inline]
 pub fn groups_at(device: &Device) -> usize {
-    HEAD_BYTES + COUNT_BYTES * device.blocks as usize
+    marks_at(device) + device.mark_bits() / 8
 }
 
 /// Where the owner of an offset is in its group.
@@ -70,8 +76,29 @@ mod tests {
     fn states_have_the_lengths_of_the_page() {
         let script = Device::new([9, 64, 256, 1]).expect("the script's device");
         assert_eq!(GROUP_BYTES, 5636);
-        assert_eq!(state_bytes(&script), 5670);
-        assert_eq!(state_bytes(&full_device(3, 4, 0)), 5658);
-        assert_eq!(state_bytes(&full_device(4096, 256, 0)), 11_550_736);
+        assert_eq!(state_bytes(&script), 5702);
+        assert_eq!(state_bytes(&full_device(3, 4, 0)), 5659);
+        assert_eq!(state_bytes(&full_device(4096, 256, 0)), 11_616_256);
+    }
+
+    /// (N + 7) / 8 bytes of marks, between the counts and the groups.
+    #[test]
+    fn marks_have_whole_bytes() {
+        for (logical_pages, bytes) in [(1, 1), (7, 1), (8, 1), (9, 2), (16, 2), (17, 3), (256, 32)]
+        {
+            let device = Device::new([9, 64, logical_pages, 1]).expect("a device");
+            assert_eq!(marks_at(&device), 34);
+            assert_eq!(groups_at(&device), 34 + bytes, "N {logical_pages}");
+        }
+    }
+
+    /// What one has more of counts the other has more of marks, and their spare
+    /// areas are of one length too.
+    #[test]
+    fn two_devices_may_have_one_length() {
+        let fewer = full_device(4, 20, 0);
+        let more = Device::new([5, 16, 16, 0]).expect("a device");
+        assert_eq!(state_bytes(&fewer), state_bytes(&more));
+        assert_eq!(fewer.spare_length(), more.spare_length());
     }
 }

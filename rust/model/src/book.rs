@@ -12,6 +12,15 @@ pub struct Write {
     pub arrival: u32,
 }
 
+/// What happened to a logical page.
+#[derive(Clone, Copy, Debug, PartialEq, Eq)]
+pub enum Event {
+    /// It was written.
+    Write(Write),
+    /// It was discarded.
+    Discard,
+}
+
 /// A call as the book hears of it.
 #[derive(Clone, Copy, Debug)]
 pub enum Heard<'a> {
@@ -19,6 +28,8 @@ pub enum Heard<'a> {
     Format([u32; 4]),
     /// An accepted flush: the batch, the answer and the plan.
     Flush(&'a [u32], Flushed, &'a [u32]),
+    /// An accepted discard of a logical page.
+    Discard(u32),
     /// An accepted collection: the answer, the plan and the erased list.
     Collection(Collected, &'a [u32], &'a [u32]),
     /// 'Any other call, or a refused one: no change.'
@@ -26,13 +37,13 @@ pub enum Heard<'a> {
 }
 
 /// 'For each page it holds what the page carries', and for each logical page
-/// the last write to it.
+/// its last event.
 #[derive(Clone, Debug, Default)]
 pub struct Book {
     calls: usize,
     block_pages: usize,
     carried: Vec<Option<Write>>,
-    last: Vec<Option<Write>>,
+    last: Vec<Option<Event>>,
 }
 
 impl Book {
@@ -42,8 +53,9 @@ impl Book {
     }
 
     /// 'The last write to a logical page is its latest arrival in an accepted
-    /// flush since the last accepted format.'
-    pub fn last_write(&self, logical_page: u32) -> Option<Write> {
+    /// flush since the last accepted format'; it 'now means the later of write and
+    /// discard'.
+    pub fn last_event(&self, logical_page: u32) -> Option<Event> {
         self.last[logical_page as usize]
     }
 
@@ -52,6 +64,7 @@ impl Book {
         match call {
             Heard::Format(numbers) => self.format(numbers),
             Heard::Flush(batch, answer, plan) => self.flush(batch, answer, plan),
+            Heard::Discard(logical_page) => self.discard(logical_page),
             Heard::Collection(answer, plan, erased) => self.collection(answer, plan, erased),
             Heard::Other => {}
         }
@@ -74,8 +87,13 @@ impl Book {
             self.carried[page] = Some(Write { call, arrival });
         }
         for (arrival, &logical_page) in (0..).zip(batch) {
-            self.last[logical_page as usize] = Some(Write { call, arrival });
+            self.last[logical_page as usize] = Some(Event::Write(Write { call, arrival }));
         }
+    }
+
+    /// Accepted discard: each page carries what it carried.
+    fn discard(&mut self, logical_page: u32) {
+        self.last[logical_page as usize] = Some(Event::Discard);
     }
 
     /// 'Accepted collection: page p + i carries what the page in plan entry i

@@ -71,6 +71,11 @@ impl Device {
     pub fn groups(&self) -> usize {
         self.logical_pages.div_ceil(GROUP_PAGES) as usize
     }
+
+    /// The bits of the discard marks: one for each logical page, in whole bytes.
+    pub fn mark_bits(&self) -> usize {
+        self.logical_pages.next_multiple_of(8) as usize
+    }
 }
 
 /// The group of a logical page (the quotient, not Algorithm 1's remainder).

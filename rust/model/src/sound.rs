@@ -11,7 +11,8 @@ use crate::levels::{Group, GROUP_RECORDS};
 use crate::record::{Kind, Record};
 use crate::state::State;
 
-/// 'A state is sound if all groups are and no block's count exceeds B.'
+/// 'A state is sound if all groups are and no block's count exceeds B.' Every
+/// pattern of marks is sound.
 pub fn state_is_sound(device: &Device, state: &State) -> bool {
     let mut groups = state.groups.iter().enumerate();
     groups.all(|(number, group)| group_is_sound(device, number, group))

@@ -1,12 +1,15 @@
 //! The state as it is lent: 'a lent byte slice, holds M, B, N, g, each block's
-//! count of written pages (0 is free) and the groups'.
+//! count of written pages (0 is free) and the groups', and for each logical page
+//! whether it is discarded.
 //!
 //! The byte layout is not the model's business, but lengths are, because of
 //! refusals 1 and 2. A slice that is too short for the four numbers is
 //! [`Lent::Short`]. Any other slice is [`Lent::Held`], and its length is told
-//! by how many counts and groups it has room for: it has the length that a
-//! device gives exactly if those are M and the device's number of groups. A
-//! length that no device gives is a state with no group at all.
+//! by how many counts, bits of marks and groups it has room for: it has the
+//! length that a device gives exactly if those are M, N in whole bytes and the
+//! device's number of groups. Two devices may give one length; then a slice has
+//! room as the device has that the call is about. A length that no device gives
+//! is a state with no group at all.
 
 use crate::device::Device;
 use crate::levels::Group;
@@ -29,6 +32,9 @@ pub struct State {
     pub numbers: [u32; 4],
     /// Each block's count of written pages; 0 is free.
     pub counts: Vec<u32>,
+    /// Whether each logical page is discarded; the bits behind the last one fill
+    /// its byte and are ignored.
+    pub marks: Vec<bool>,
     /// The groups, by number.
     pub groups: Vec<Group>,
 }
@@ -38,8 +44,7 @@ impl Lent {
     pub fn fitting(device: &Device) -> Lent {
         Lent::Held(State {
             numbers: [0; 4],
-            counts: vec![0; device.blocks as usize],
-            groups: vec![Group::default(); device.groups()],
+            ..State::formatted(device)
         })
     }
 
@@ -66,9 +71,21 @@ impl Lent {
 }
 
 impl State {
+    /// A newly formatted device's.
+    pub fn formatted(device: &Device) -> State {
+        State {
+            numbers: device.numbers(),
+            counts: vec![0; device.blocks as usize],
+            marks: vec![false; device.mark_bits()],
+            groups: vec![Group::default(); device.groups()],
+        }
+    }
+
     /// Whether the slice has exactly the length that `device` gives.
     pub fn fits(&self, device: &Device) -> bool {
-        self.counts.len() == device.blocks as usize && self.groups.len() == device.groups()
+        self.counts.len() == device.blocks as usize
+            && self.marks.len() == device.mark_bits()
+            && self.groups.len() == device.groups()
     }
 
     /// The free blocks, ascending.

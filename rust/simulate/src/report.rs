@@ -460,7 +460,7 @@ mod tests {
             );
             assert_eq!(
                 [cell(row, "reserved"), cell(row, "paper")],
-                ["5670", "64.00"]
+                ["5702", "64.00"]
             );
         }
         assert_eq!([cell(1, "spare"), cell(2, "spare")], ["2304", "6912"]);

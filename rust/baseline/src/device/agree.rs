@@ -1,11 +1,10 @@
 //! Agreement.
 
-use hedjosur_layout::Part;
 use hedjosur_model::ops::Refusal;
 
-use super::lookup::resolve;
+use super::lookup::{predict, resolve};
 use super::numbers::Numbers;
-use super::state::{is_sound, open_with, regions, require};
+use super::state::{is_sound, open_with, regions, require, Regions};
 use crate::group::{self, Predictions, NOT_WRITTEN};
 
 /// Whether two states, each with its spare area, agree.
@@ -14,7 +13,7 @@ pub fn agree(one: (&[u8], &[u32]), other: (&[u8], &[u32])) -> Result<bool, Refus
     let other = Side::open(other)?;
     let mut agreed = one.device.logical_pages == other.device.logical_pages;
     let mut pages = [[NOT_WRITTEN; 256]; 2];
-    for number in 0..one.groups.len().max(other.groups.len()) {
+    for number in 0..one.device.groups().max(other.device.groups()) {
         if !one.is_written(number) && !other.is_written(number) {
             continue;
         }
@@ -29,7 +28,7 @@ pub fn agree(one: (&[u8], &[u32]), other: (&[u8], &[u32])) -> Result<bool, Refus
 /// A state and its spare area.
 struct Side<'a> {
     device: Numbers,
-    groups: &'a [Part],
+    regions: Regions<'a>,
     area: &'a [u32],
 }
 
@@ -38,27 +37,26 @@ impl<'a> Side<'a> {
     fn open((state, area): (&'a [u8], &'a [u32])) -> Result<Side<'a>, Refusal> {
         let device = open_with(state, area)?;
         require(is_sound(&device, state), Refusal::NotSound)?;
-        let (_, groups) = regions(&device, state);
         Ok(Side {
             device,
-            groups,
+            regions: regions(&device, state),
             area,
         })
     }
 
     /// Whether a group has records.
     fn is_written(&self, number: usize) -> bool {
-        let part = self.groups.get(number);
+        let part = self.regions.groups.get(number);
         part.is_some_and(|part| group::records(part) > 0)
     }
 
     /// Looks up all logical pages of a group; a page beyond the last is not written.
     fn look_up(&self, number: usize, pages: &mut Predictions) -> Result<(), Refusal> {
-        let Some(part) = self.groups.get(number) else {
+        if number >= self.device.groups() {
             pages.fill(NOT_WRITTEN);
             return Ok(());
-        };
-        group::predict(part, pages);
+        }
+        predict(&self.regions, number, pages);
         for (page, logical_page) in pages.iter_mut().zip(256 * number as u32..) {
             if *page != NOT_WRITTEN {
                 let found = resolve(&self.device, self.area, *page, logical_page);

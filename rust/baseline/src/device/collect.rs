@@ -1,14 +1,15 @@
 //! Collection.
 
-use hedjosur_layout::Part;
 use hedjosur_model::device::{group_of, offset_of};
 use hedjosur_model::ops::{Collected, Refusal};
 
 use super::flush::store;
-use super::lookup::resolve;
+use super::lookup::{predict, resolve};
 use super::numbers::Numbers;
-use super::spare;
-use super::state::{free_block, is_sound, open_with, regions, regions_mut, require, Count, FREE};
+use super::state::{
+    free_block, is_sound, open_with, regions, regions_mut, require, Count, Regions, FREE,
+};
+use super::{marks, spare};
 use crate::group::{self, NOT_WRITTEN};
 use crate::sort::{sort_batch, BATCH};
 
@@ -31,8 +32,9 @@ pub fn collect(
     require(plan.len() == plan_length, Refusal::BadLength)?;
     require(erased.len() == erased_length, Refusal::BadLength)?;
     require(is_sound(&device, state), Refusal::NotSound)?;
-    let (counts, groups) = regions(&device, state);
-    let tally = tally(&device, groups, area);
+    let regions = regions(&device, state);
+    let counts = regions.counts;
+    let tally = tally(&device, &regions, area);
     let mut order = Order::of(&device, counts, &tally);
     let gains = order.taken >= 2 || (order.taken == 1 && order.valid == 0);
     require(gains, Refusal::NothingToGain)?;
@@ -45,14 +47,14 @@ pub fn collect(
         Some(block) if order.valid > 0 => {
             let mut moves = Moves::none();
             for &block in taken {
-                moves.add(&device, groups, area, block, tally[block as usize]);
+                moves.add(&device, &regions, area, block, tally[block as usize]);
             }
             let pages = moves.sorted(plan);
             store(&device, state, area, block, &pages[..order.valid])
         }
         _ => 0,
     };
-    let (counts, _) = regions_mut(&device, state);
+    let counts = regions_mut(&device, state).counts;
     for &block in taken {
         spare::erase(&device, area, block as usize);
         counts[block as usize] = FREE;
@@ -65,15 +67,17 @@ pub fn collect(
 }
 
 /// The valid pages of each block, counted by logical page: each has at most one.
-fn tally(device: &Numbers, groups: &[Part], area: &[u32]) -> Tally {
+fn tally(device: &Numbers, regions: &Regions, area: &[u32]) -> Tally {
     let mut tally = [0; BLOCKS];
     let mut pages = [NOT_WRITTEN; 256];
     // 2^32 divided by B and rounded up: a page's block without a division.
     let reciprocal = (1u64 << 32).div_ceil(device.block_pages.into());
-    let written = |(part, _): &(&Part, u32)| group::records(part) > 0;
-    for (part, number) in groups.iter().zip(0..).filter(written) {
-        group::predict(part, &mut pages);
-        for (&predicted, logical_page) in pages.iter().zip(256 * number..) {
+    for (number, part) in regions.groups.iter().enumerate() {
+        if group::records(part) == 0 {
+            continue;
+        }
+        predict(regions, number, &mut pages);
+        for (&predicted, logical_page) in pages.iter().zip(256 * number as u32..) {
             if let Some(page) = valid_page(device, area, predicted, logical_page) {
                 let block = (u64::from(page) * reciprocal) >> 32;
                 tally[block as usize % BLOCKS] += 1;
@@ -166,13 +170,13 @@ impl Moves {
     }
 
     /// Adds the valid pages of a block, which has so many.
-    fn add(&mut self, device: &Numbers, groups: &[Part], area: &[u32], block: u32, valid: u16) {
+    fn add(&mut self, device: &Numbers, regions: &Regions, area: &[u32], block: u32, valid: u16) {
         let end = self.count + usize::from(valid);
         let mut page = block * device.block_pages;
         while self.count < end {
             let logical_page = spare::middle(device, area, page);
             let exists = logical_page < device.logical_pages;
-            if exists && is_at(device, groups, area, logical_page, page) {
+            if exists && is_at(device, regions, area, logical_page, page) {
                 self.logical_pages[self.count] = logical_page;
                 self.sources[self.count] = page;
                 self.count += 1;
@@ -194,9 +198,12 @@ impl Moves {
 }
 
 /// Whether lookup of a logical page gives a page.
-fn is_at(device: &Numbers, groups: &[Part], area: &[u32], logical_page: u32, page: u32) -> bool {
+fn is_at(device: &Numbers, regions: &Regions, area: &[u32], logical_page: u32, page: u32) -> bool {
+    if marks::is_discarded(regions.marks, logical_page) {
+        return false;
+    }
     let offset = offset_of(logical_page);
-    let found = group::find(&groups[group_of(logical_page)], offset);
+    let found = group::find(&regions.groups[group_of(logical_page)], offset);
     found.record.is_some_and(|record| {
         resolve(device, area, record.predicted(offset), logical_page) == Some(page)
     })

@@ -4,8 +4,8 @@ use hedjosur_model::device::{group_of, offset_of};
 use hedjosur_model::ops::{Flushed, Refusal};
 
 use super::numbers::Numbers;
-use super::spare;
-use super::state::{free_block, is_sound, open_with, regions, regions_mut, require};
+use super::state::{free_block, is_sound, open_with, regions, regions_mut, require, RegionsMut};
+use super::{marks, spare};
 use crate::group;
 use crate::learn::{parts, Learner, Run};
 use crate::offsets::Offsets;
@@ -25,7 +25,7 @@ pub fn flush(
     require((1..=block_pages).contains(&batch.len()), Refusal::BadBatch)?;
     let greatest = batch.iter().fold(0, |greatest, &page| page.max(greatest));
     require(greatest < device.logical_pages, Refusal::OutOfRange)?;
-    let (counts, _) = regions(&device, state);
+    let counts = regions(&device, state).counts;
     let block = free_block(counts, 0).ok_or(Refusal::NoFreeBlock)?;
     free_block(counts, block + 1).ok_or(Refusal::NoFreeBlock)?;
 
@@ -44,8 +44,9 @@ pub fn flush(
     })
 }
 
-/// Puts sorted logical pages on a block, learns them and takes the records in.
-/// Answers the first page.
+/// Puts sorted logical pages on a block, learns them and takes the records in; none
+/// of them is discarded any more, as none was that a collection moves. Answers the
+/// first page.
 pub(super) fn store(
     device: &Numbers,
     state: &mut [u8],
@@ -54,20 +55,30 @@ pub(super) fn store(
     written: &[u32],
 ) -> u32 {
     spare::write(device, area, block, written);
-    let (counts, groups) = regions_mut(device, state);
+    let RegionsMut {
+        counts,
+        marks,
+        groups,
+    } = regions_mut(device, state);
     counts[block] = (written.len() as u16).to_le_bytes();
 
     let first = block as u32 * device.block_pages;
     let mut learner = Learner::new(written, first, device.bound);
     let mut runs = [Run::default(); BATCH];
     for part in parts(written) {
-        let group = &mut groups[group_of(written[part.start])];
+        let number = group_of(written[part.start]);
         let mut count = 0;
         learner.learn(part, |run| {
             runs[count] = run;
             count += 1;
         });
-        group::take(group, &runs[..count], |run| members(run, written));
+        let runs = &runs[..count];
+        group::take(&mut groups[number], runs, |run| members(run, written));
+        if !marks::discarded(marks, number).is_empty() {
+            let offsets = runs.iter().map(|run| members(run, written));
+            let offsets = offsets.fold(Offsets::NONE, |all, one| all | one);
+            marks::clear(marks, number, offsets);
+        }
     }
     first
 }

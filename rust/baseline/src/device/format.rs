@@ -17,9 +17,10 @@ pub fn format(state: &mut [u8], area: &mut [u32], numbers: [u32; 4]) -> Result<(
     for (bytes, number) in head.iter_mut().zip(numbers) {
         *bytes = number.to_le_bytes();
     }
-    let (counts, groups) = regions_mut(&device, state);
-    counts.fill(FREE);
-    for part in groups {
+    let regions = regions_mut(&device, state);
+    regions.counts.fill(FREE);
+    regions.marks.fill(0);
+    for part in regions.groups {
         part[..SLOTS_AT].fill(0);
     }
     area.fill(NOBODY);

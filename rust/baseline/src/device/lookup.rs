@@ -4,21 +4,18 @@ use hedjosur_model::device::{group_of, offset_of};
 use hedjosur_model::ops::{Lookup, Refusal};
 
 use super::numbers::Numbers;
-use super::spare;
-use super::state::{open_with, regions, require};
-use crate::group::{self, Found};
+use super::state::{open_with, regions, require, Regions};
+use super::{marks, spare};
+use crate::group::{self, Found, Predictions, NOT_WRITTEN};
 
 /// Looks a logical page up.
 pub fn lookup(state: &[u8], area: &[u32], logical_page: u32) -> Result<Lookup, Refusal> {
-    let device = open_with(state, area)?;
-    require(logical_page < device.logical_pages, Refusal::OutOfRange)?;
-    let (_, groups) = regions(&device, state);
-    let number = group_of(logical_page);
-    let part = &groups[number];
-    let sound = group::sound(part, device.logical_pages, number as u32);
-    require(sound, Refusal::NotSound)?;
+    let (device, regions) = open_for(state, area, logical_page)?;
+    if marks::is_discarded(regions.marks, logical_page) {
+        return Ok(Lookup::NotWritten { levels: 0 });
+    }
     let offset = offset_of(logical_page);
-    let Found { record, levels } = group::find(part, offset);
+    let Found { record, levels } = group::find(&regions.groups[group_of(logical_page)], offset);
     let levels = levels.into();
     let Some(record) = record else {
         return Ok(Lookup::NotWritten { levels });
@@ -30,6 +27,33 @@ pub fn lookup(state: &[u8], area: &[u32], logical_page: u32) -> Result<Lookup, R
         predicted,
         levels,
     })
+}
+
+/// The numbers and the regions of a state, with its spare area, for a call about one
+/// logical page; or refusal 1, 2, 4 or 3.
+#[inline]
+pub(super) fn open_for<'a>(
+    state: &'a [u8],
+    area: &[u32],
+    logical_page: u32,
+) -> Result<(Numbers, Regions<'a>), Refusal> {
+    let device = open_with(state, area)?;
+    require(logical_page < device.logical_pages, Refusal::OutOfRange)?;
+    let number = group_of(logical_page);
+    let regions = regions(&device, state);
+    let part = &regions.groups[number];
+    let sound = group::sound(part, device.logical_pages, number as u32);
+    require(sound, Refusal::NotSound)?;
+    Ok((device, regions))
+}
+
+/// Fills in the predicted page of each logical page of a group; a discarded one is
+/// not written.
+pub(super) fn predict(regions: &Regions, number: usize, pages: &mut Predictions) {
+    group::predict(&regions.groups[number], pages);
+    for offset in marks::discarded(regions.marks, number).iter() {
+        pages[usize::from(offset)] = NOT_WRITTEN;
+    }
 }
 
 /// The page that holds a logical page, if the predicted one exists and names it.

@@ -3,9 +3,11 @@
 
 mod agree;
 mod collect;
+mod discard;
 mod flush;
 mod format;
 mod lookup;
+mod marks;
 mod numbers;
 mod spare;
 mod state;
@@ -13,6 +15,7 @@ mod upkeep;
 
 pub use agree::agree;
 pub use collect::collect;
+pub use discard::discard;
 pub use flush::flush;
 pub use format::format;
 pub use lookup::lookup;

@@ -53,10 +53,16 @@ impl Numbers {
         self.pages() as usize * self.width()
     }
 
+    /// Where the discard marks begin in the state.
+    #[inline]
+    pub fn marks_at(&self) -> usize {
+        HEAD_BYTES + COUNT_BYTES * self.blocks as usize
+    }
+
     /// Where the groups begin in the state.
     #[inline]
     pub fn groups_at(&self) -> usize {
-        HEAD_BYTES + COUNT_BYTES * self.blocks as usize
+        self.marks_at() + self.logical_pages.div_ceil(8) as usize
     }
 
     /// The length of the state.

@@ -43,27 +43,49 @@ pub(super) fn open_with(state: &[u8], area: &[u32]) -> Result<Numbers, Refusal> 
     Ok(device)
 }
 
-/// The counts and the groups of a state whose length fits.
+/// What a state holds behind its numbers.
+#[derive(Clone, Copy)]
+pub(super) struct Regions<'a> {
+    pub counts: &'a [Count],
+    /// The discard marks.
+    pub marks: &'a [u8],
+    pub groups: &'a [Part],
+}
+
+/// As [`Regions`], for writing.
+pub(super) struct RegionsMut<'a> {
+    pub counts: &'a mut [Count],
+    pub marks: &'a mut [u8],
+    pub groups: &'a mut [Part],
+}
+
+/// The regions of a state whose length fits.
 #[inline]
-pub(super) fn regions<'a>(device: &Numbers, state: &'a [u8]) -> (&'a [Count], &'a [Part]) {
-    let (counts, groups) = state[HEAD_BYTES..].split_at(device.groups_at() - HEAD_BYTES);
-    (counts.as_chunks().0, groups.as_chunks::<GROUP_BYTES>().0)
+pub(super) fn regions<'a>(device: &Numbers, state: &'a [u8]) -> Regions<'a> {
+    let (before, groups) = state.split_at(device.groups_at());
+    let (before, marks) = before.split_at(device.marks_at());
+    Regions {
+        counts: before[HEAD_BYTES..].as_chunks().0,
+        marks,
+        groups: groups.as_chunks::<GROUP_BYTES>().0,
+    }
 }
 
 /// As [`regions`], for writing.
 #[inline]
-pub(super) fn regions_mut<'a>(
-    device: &Numbers,
-    state: &'a mut [u8],
-) -> (&'a mut [Count], &'a mut [Part]) {
-    let (counts, groups) = state[HEAD_BYTES..].split_at_mut(device.groups_at() - HEAD_BYTES);
-    let (groups, _) = groups.as_chunks_mut::<GROUP_BYTES>();
-    (counts.as_chunks_mut().0, groups)
+pub(super) fn regions_mut<'a>(device: &Numbers, state: &'a mut [u8]) -> RegionsMut<'a> {
+    let (before, groups) = state.split_at_mut(device.groups_at());
+    let (before, marks) = before.split_at_mut(device.marks_at());
+    RegionsMut {
+        counts: before[HEAD_BYTES..].as_chunks_mut().0,
+        marks,
+        groups: groups.as_chunks_mut::<GROUP_BYTES>().0,
+    }
 }
 
 /// Whether all groups are sound and no count exceeds B.
 pub(super) fn is_sound(device: &Numbers, state: &[u8]) -> bool {
-    let (counts, groups) = regions(device, state);
+    let Regions { counts, groups, .. } = regions(device, state);
     let counts = counts.iter().map(|&count| u16::from_le_bytes(count));
     let mut numbered = groups.iter().zip(0..);
     u32::from(counts.fold(0, u16::max)) <= device.block_pages

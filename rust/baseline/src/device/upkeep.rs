@@ -14,7 +14,7 @@ const LISTING_BYTES: usize = GROUP_RECORDS * SLOT_BYTES;
 /// Compacts a group; answers its records left.
 pub fn compact(state: &mut [u8], number: u32) -> Result<usize, Refusal> {
     let device = open(state)?;
-    let (_, groups) = regions_mut(&device, state);
+    let groups = regions_mut(&device, state).groups;
     let part = groups.get_mut(number as usize).ok_or(Refusal::OutOfRange)?;
     require_sound(&device, part, number)?;
     Ok(group::compact(part))
@@ -25,7 +25,7 @@ pub fn compact(state: &mut [u8], number: u32) -> Result<usize, Refusal> {
 pub fn list(state: &[u8], number: u32, out: &mut [u8]) -> Result<usize, Refusal> {
     let device = open(state)?;
     require(out.len() == LISTING_BYTES, Refusal::BadLength)?;
-    let (_, groups) = regions(&device, state);
+    let groups = regions(&device, state).groups;
     let part = groups.get(number as usize).ok_or(Refusal::OutOfRange)?;
     require_sound(&device, part, number)?;
     let count = group::records(part);

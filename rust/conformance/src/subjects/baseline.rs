@@ -74,6 +74,10 @@ impl Calls for Baseline {
         device::lookup(state, area, logical_page)
     }
 
+    fn discard(&self, state: &mut [u8], area: &[u32], logical_page: u32) -> Result<(), Refusal> {
+        device::discard(state, area, logical_page)
+    }
+
     fn collect(
         &self,
         state: &mut [u8],

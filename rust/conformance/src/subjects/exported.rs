@@ -59,6 +59,11 @@ impl Calls for Exported {
         Ok(in_model)
     }
 
+    fn discard(&self, state: &mut [u8], spare: &[u32], logical_page: u32) -> Result<(), Refusal> {
+        let mut device = Device { state, spare };
+        device.discard(logical_page).map_err(refusal)
+    }
+
     fn collect(
         &self,
         state: &mut [u8],

@@ -2,7 +2,7 @@
 
 use super::lookup::seek;
 use super::{require, Refusal};
-use crate::device::{group_of, Device};
+use crate::device::Device;
 use crate::sound::state_is_sound;
 use crate::state::{Lent, State};
 
@@ -40,8 +40,7 @@ impl Whole<'_> {
     fn lookups(&self) -> Result<Vec<Option<u32>>, Refusal> {
         (0..self.device.logical_pages)
             .map(|logical_page| {
-                let group = &self.state.groups[group_of(logical_page)];
-                let answer = seek(&self.device, group, self.area, logical_page)?;
+                let answer = seek(&self.device, self.state, self.area, logical_page)?;
                 Ok(answer.page())
             })
             .collect()

@@ -4,7 +4,7 @@ use std::collections::BTreeMap;
 
 use super::lookup::seek;
 use super::{require, store, Refusal};
-use crate::device::{group_of, Device};
+use crate::device::Device;
 use crate::sound::state_is_sound;
 use crate::spare;
 use crate::state::{Lent, State};
@@ -92,15 +92,14 @@ fn taken_blocks(device: &Device, state: &State, area: &[u32]) -> Vec<u32> {
 
 /// The valid pages of a block, as logical page and page: 'a page is valid if its
 /// middle entry is below N and lookup of that gives this page'. A lookup that
-/// would refuse makes the page not valid.
+/// would refuse makes the page not valid, and so does a discard.
 fn valid_pages(device: &Device, state: &State, area: &[u32], block: u32) -> Vec<(u32, u32)> {
     device
         .pages_of_block(block)
         .map(|page| (spare::middle(device, area, page), page))
         .filter(|&(logical_page, page)| {
             logical_page < device.logical_pages && {
-                let group = &state.groups[group_of(logical_page)];
-                let answer = seek(device, group, area, logical_page);
+                let answer = seek(device, state, area, logical_page);
                 answer.is_ok_and(|found| found.page() == Some(page))
             }
         })

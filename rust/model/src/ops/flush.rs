@@ -18,7 +18,8 @@ pub struct Flushed {
 /// and count, and writes into a plan of B entries (32 bits), for each page
 /// written, the arrival index (from 0) stored there; later entries stay. After
 /// 1 and 2: 3, state not sound; 5, batch empty or longer than B; 4, a logical
-/// page is N or more; 6, fewer than two free blocks.'
+/// page is N or more; 6, fewer than two free blocks.' No page that it writes is
+/// discarded any more.
 pub fn flush(
     lent: &mut Lent,
     area: &mut [u32],
@@ -43,6 +44,9 @@ pub fn flush(
     let kept = last_arrivals(batch);
     let sorted: Vec<u32> = kept.keys().copied().collect();
     let first = store(&device, state, area, free[0], &sorted);
+    for &logical_page in &sorted {
+        state.marks[logical_page as usize] = false;
+    }
     for (entry, arrival) in plan.iter_mut().zip(kept.into_values()) {
         *entry = arrival;
     }

@@ -2,14 +2,13 @@
 
 use super::{require, Refusal};
 use crate::device::Device;
-use crate::levels::Group;
 use crate::spare::NOBODY;
 use crate::state::{Lent, State};
 
 /// Format 'writes M, B, N, g, frees all blocks, empties all groups and fills
 /// every spare entry with 4,294,967,295. It refuses 1 when a device number is
 /// outside its limits, then 2 when state or spare area hasn't exactly the length
-/// these numbers give.'
+/// these numbers give.' It 'clears all marks', and the bits behind the last one.
 pub fn format(lent: &mut Lent, area: &mut [u32], numbers: [u32; 4]) -> Result<(), Refusal> {
     let device = Device::new(numbers).ok_or(Refusal::BadNumbers)?;
     let state = match lent {
@@ -18,11 +17,7 @@ pub fn format(lent: &mut Lent, area: &mut [u32], numbers: [u32; 4]) -> Result<()
     };
     require(area.len() == device.spare_length(), Refusal::BadLength)?;
 
-    *state = State {
-        numbers,
-        counts: vec![0; device.blocks as usize],
-        groups: vec![Group::default(); device.groups()],
-    };
+    *state = State::formatted(&device);
     area.fill(NOBODY);
     Ok(())
 }

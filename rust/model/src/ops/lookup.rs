@@ -2,10 +2,9 @@
 
 use super::{require, Refusal};
 use crate::device::{group_of, offset_of, Device};
-use crate::levels::Group;
 use crate::sound::group_is_sound;
 use crate::spare;
-use crate::state::Lent;
+use crate::state::{Lent, State};
 
 /// Lookup 'answers the page, the predicted page and how many levels were looked
 /// at, or 'not written' with the number of levels'.
@@ -20,9 +19,9 @@ pub enum Lookup {
         /// How many levels were looked at.
         levels: usize,
     },
-    /// No record has it.
+    /// It is discarded, or no record has it.
     NotWritten {
-        /// The number of levels.
+        /// 0 where it is discarded, else the number of levels.
         levels: usize,
     },
 }
@@ -51,23 +50,39 @@ impl Lookup {
 /// Lookup of a logical page. 'After 1 and 2: 4; 3, its group not sound; 7, the
 /// predicted page doesn't exist or no entry names the logical page.'
 pub fn lookup(lent: &Lent, area: &[u32], logical_page: u32) -> Result<Lookup, Refusal> {
+    let (device, state) = open_for(lent, area, logical_page)?;
+    seek(&device, state, area, logical_page)
+}
+
+/// The device and the state, for a call about one logical page, or one of the
+/// refusals before 7.
+pub(super) fn open_for<'a>(
+    lent: &'a Lent,
+    area: &[u32],
+    logical_page: u32,
+) -> Result<(Device, &'a State), Refusal> {
     let (device, state) = lent.open()?;
     require(area.len() == device.spare_length(), Refusal::BadLength)?;
     require(logical_page < device.logical_pages, Refusal::OutOfRange)?;
     let number = group_of(logical_page);
-    let group = &state.groups[number];
-    require(group_is_sound(&device, number, group), Refusal::NotSound)?;
-    seek(&device, group, area, logical_page)
+    let sound = group_is_sound(&device, number, &state.groups[number]);
+    require(sound, Refusal::NotSound)?;
+    Ok((device, state))
 }
 
-/// Lookup in a group already known to be sound: it 'goes down the levels to the
-/// first record having the offset as a member'.
+/// Lookup in a group already known to be sound. Of a discarded page it 'says 'not
+/// written' with 0 levels looked at'; else it 'goes down the levels to the first
+/// record having the offset as a member'.
 pub(super) fn seek(
     device: &Device,
-    group: &Group,
+    state: &State,
     area: &[u32],
     logical_page: u32,
 ) -> Result<Lookup, Refusal> {
+    if state.marks[logical_page as usize] {
+        return Ok(Lookup::NotWritten { levels: 0 });
+    }
+    let group = &state.groups[group_of(logical_page)];
     let offset = offset_of(logical_page);
     let Some((level, record)) = group.first_with(offset) else {
         let levels = group.levels.len();

@@ -4,6 +4,7 @@
 mod agreement;
 mod collection;
 mod compaction;
+mod discard;
 mod flush;
 mod format;
 mod list;
@@ -13,6 +14,7 @@ mod refusal;
 pub use agreement::agreement;
 pub use collection::{collection, Collected};
 pub use compaction::compaction;
+pub use discard::discard;
 pub use flush::{flush, Flushed};
 pub use format::format;
 pub use list::list;

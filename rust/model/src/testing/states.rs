@@ -76,9 +76,9 @@ pub fn last_offset(device: &Device, group: usize) -> u8 {
     (after.min(GROUP_PAGES) - 1) as u8
 }
 
-/// A state of a device with arbitrary sound groups and counts.
+/// A state of a device with arbitrary sound groups, counts and marks.
 pub fn sound_state(random: &mut Random, device: &Device) -> State {
-    let used = random.between(1, 4);
+    let (used, kept) = (random.between(1, 4), random.between(1, 8));
     State {
         numbers: device.numbers(),
         counts: (0..device.blocks)
@@ -86,6 +86,9 @@ pub fn sound_state(random: &mut Random, device: &Device) -> State {
                 true => 0,
                 false => random.between(1, device.block_pages),
             })
+            .collect(),
+        marks: (0..device.mark_bits())
+            .map(|_| random.once_in(kept))
             .collect(),
         groups: (0..device.groups())
             .map(|number| sound_group(random, last_offset(device, number)))

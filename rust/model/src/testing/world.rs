@@ -2,7 +2,7 @@
 
 use super::{batch, lists, Random};
 use crate::device::Device;
-use crate::ops::{self, Flushed, Lookup, Refusal};
+use crate::ops::{self, Collected, Flushed, Lookup, Refusal};
 use crate::state::{Lent, State};
 
 /// A state and its spare area.
@@ -23,15 +23,18 @@ impl World {
         World { lent, area }
     }
 
-    /// A device after some accepted flushes and collections.
+    /// A device after some accepted flushes, collections and discards.
     pub fn lived_in(random: &mut Random, device: &Device) -> World {
         let mut world = World::formatted(device);
         for _ in 0..random.below(3 * device.blocks.min(8)) {
             let batch = batch(random, device);
             if world.flush(&batch).is_err() || random.once_in(6) {
-                let [mut plan, mut erased] = lists(device);
                 // Refused 8 now and then, which is no harm here.
-                let _ = ops::collection(&mut world.lent, &mut world.area, &mut plan, &mut erased);
+                let _ = world.collection();
+            }
+            if random.once_in(3) {
+                let discarded = world.discard(random.below(device.logical_pages));
+                discarded.expect("an accepted discard");
             }
         }
         world
@@ -54,6 +57,17 @@ impl World {
     pub fn flush(&mut self, batch: &[u32]) -> Result<Flushed, Refusal> {
         let [mut plan, _] = lists(&self.device());
         ops::flush(&mut self.lent, &mut self.area, batch, &mut plan)
+    }
+
+    /// A collection whose plan and erased list are thrown away.
+    pub fn collection(&mut self) -> Result<Collected, Refusal> {
+        let [mut plan, mut erased] = lists(&self.device());
+        ops::collection(&mut self.lent, &mut self.area, &mut plan, &mut erased)
+    }
+
+    /// A discard.
+    pub fn discard(&mut self, logical_page: u32) -> Result<(), Refusal> {
+        ops::discard(&mut self.lent, &self.area, logical_page)
     }
 
     /// A lookup.

@@ -1,6 +1,6 @@
 //! The calls, with the book beside them.
 
-use hedjosur_model::book::Heard;
+use hedjosur_model::book::{Event, Heard};
 use hedjosur_model::device::Device;
 use hedjosur_model::ops::{self, Collected, Flushed, Refusal};
 use hedjosur_model::testing::{lists, World};
@@ -29,6 +29,8 @@ impl History<'_> {
         let answer = ops::flush(lent, area, batch, &mut plan);
         match answer {
             Ok(flushed) => {
+                let discarded = |&&page: &&u32| self.book.last_event(page) == Some(Event::Discard);
+                self.events.written_again += batch.iter().filter(discarded).count();
                 self.book.hear(Heard::Flush(batch, flushed, &plan));
                 self.watch(&before, flushed.first, flushed.count);
             }
@@ -46,6 +48,7 @@ impl History<'_> {
     /// occur'.
     pub fn collection(&mut self) -> Result<Collected, Refusal> {
         self.log.note("collection");
+        let expected = self.expected_collection();
         let before = self.world.clone();
         let [mut plan, mut erased] = lists(&self.device);
         let World { lent, area } = &mut self.world;
@@ -54,13 +57,16 @@ impl History<'_> {
             Ok(collected) => {
                 self.book.hear(Heard::Collection(collected, &plan, &erased));
                 self.watch(&before, collected.first, collected.count);
-                // The block flushed or collected last always has valid pages, and
-                // any one block's can be taken, so the total is never 0 here.
-                assert!(collected.count > 0 && collected.erased >= 2);
-                self.events.collected += 1;
+                plan.truncate(collected.count as usize);
+                erased.truncate(collected.erased as usize);
+                assert_eq!(Some([plan, erased]), expected);
+                match collected.count {
+                    0 => self.events.nothing_to_copy += 1,
+                    _ => self.events.collected += 1,
+                }
             }
             Err(refusal) => {
-                assert_eq!(refusal, Refusal::NothingToGain);
+                assert_eq!((refusal, None), (Refusal::NothingToGain, expected));
                 assert_eq!([plan, erased], lists(&self.device));
                 self.events.nothing_to_gain += 1;
                 self.refused(&before);
@@ -86,6 +92,32 @@ impl History<'_> {
         self.log.note(("lookup", logical_page));
         assert!(self.world.lookup(logical_page).is_ok());
         self.book.hear(Heard::Other);
+    }
+
+    /// An accepted discard of any logical page.
+    pub fn discard(&mut self) {
+        let logical_page = self.random.below(self.device.logical_pages);
+        self.discard_page(logical_page);
+    }
+
+    /// Accepted discards of all logical pages.
+    pub fn discard_all(&mut self) {
+        (0..self.device.logical_pages).for_each(|page| self.discard_page(page));
+    }
+
+    fn discard_page(&mut self, logical_page: u32) {
+        self.log.note(("discard", logical_page));
+        match self.book.last_event(logical_page) {
+            None => self.events.discarded_unwritten += 1,
+            Some(Event::Discard) => self.events.discarded_again += 1,
+            Some(Event::Write(_)) => self.events.discarded += 1,
+        }
+        let mut marked = self.world.clone();
+        marked.state_mut().marks[logical_page as usize] = true;
+        assert_eq!(self.world.discard(logical_page), Ok(()));
+        assert!(self.world == marked, "a discard changed more than a mark");
+        self.book.hear(Heard::Discard(logical_page));
+        self.check();
     }
 
     /// Agreement with an earlier world, which may become the present one.

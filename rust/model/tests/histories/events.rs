@@ -19,6 +19,13 @@ pub struct Events {
     pub one_read: usize,
     pub two_reads: usize,
     pub refused: usize,
+    pub discarded: usize,
+    pub discarded_unwritten: usize,
+    pub discarded_again: usize,
+    pub discarded_before_a_repeat: usize,
+    pub written_again: usize,
+    pub spared_refusal_7: usize,
+    pub nothing_to_copy: usize,
 }
 
 /// Asserts that each of the named events happened.

@@ -4,13 +4,14 @@
 mod calls;
 mod check;
 mod events;
+mod gain;
 mod history;
 mod refused;
 mod steps;
 mod watch;
 
 use events::{assert_happened, Events};
-use hedjosur_model::testing::{full_device, rounds, small_device};
+use hedjosur_model::testing::{batch, full_device, rounds, small_device};
 use history::History;
 
 #[test]
@@ -41,6 +42,13 @@ fn small_devices() {
         one_read,
         two_reads,
         refused,
+        discarded,
+        discarded_unwritten,
+        discarded_again,
+        discarded_before_a_repeat,
+        written_again,
+        spared_refusal_7,
+        nothing_to_copy,
     );
 }
 
@@ -77,6 +85,10 @@ fn larger_devices() {
         flush_after_collection,
         two_reads,
         refused,
+        discarded,
+        discarded_before_a_repeat,
+        written_again,
+        spared_refusal_7,
     );
 }
 
@@ -123,5 +135,27 @@ fn scattered_batches() {
         second_victim,
         second_victim_under_a_new_level,
         compaction_for_room,
+    );
+}
+
+/// All logical pages are discarded before each collection, so that it copies
+/// nothing, and again before the flush is repeated.
+#[test]
+fn everything_is_discarded() {
+    let mut events = Events::default();
+    rounds(100, &mut events, |random, log, events| {
+        let device = small_device(random);
+        let mut history = History::new(device, random, log, events);
+        for _ in 0..20 {
+            let batch = batch(history.random, &device);
+            history.flush_by_any_means(&batch, History::discard_all);
+        }
+    });
+    assert_eq!(events.collected, 0);
+    assert_happened!(
+        events,
+        nothing_to_copy,
+        flush_after_collection,
+        written_again,
     );
 }

@@ -12,7 +12,7 @@ impl History<'_> {
         let device = self.device;
         let (logical_pages, block_pages) = (device.logical_pages, device.block_pages);
         let before = self.world.clone();
-        let wrong = self.random.below(12);
+        let wrong = self.random.below(14);
         self.log.note(("refused call", wrong));
         let [mut plan, mut erased] = lists(&device);
         let World { lent, area } = &mut self.world;
@@ -44,7 +44,9 @@ impl History<'_> {
                 let group = device.groups() as u32;
                 (number(ops::compaction(lent, group).map(drop)), 4)
             }
-            10 => {
+            10 => (number(ops::discard(lent, area, logical_pages)), 4),
+            11 => (number(ops::discard(lent, &area[1..], 0)), 2),
+            12 => {
                 let numbers = [device.blocks, block_pages, 0, device.bound];
                 (number(ops::format(lent, area, numbers)), 1)
             }

@@ -18,12 +18,17 @@ impl History<'_> {
         }
     }
 
-    /// 'Whatever lookups, compactions and refused calls come between.'
+    /// 'Whatever lookups, compactions and refused calls come between', and
+    /// discards.
     fn interlude(&mut self) {
-        for _ in 0..self.random.below(3) {
-            match self.random.below(3) {
+        for _ in 0..self.random.below(4) {
+            match self.random.below(4) {
                 0 => self.lookup(),
                 1 => self.compaction(),
+                2 => {
+                    self.discard();
+                    self.events.discarded_before_a_repeat += 1;
+                }
                 _ => self.refused_call(),
             }
         }
@@ -31,7 +36,7 @@ impl History<'_> {
 
     /// One random call, or a few that belong together.
     pub fn step(&mut self) {
-        match self.random.below(16) {
+        match self.random.below(18) {
             0..=8 => {
                 let batch = batch(self.random, &self.device);
                 self.flush_by_any_means(&batch, Self::interlude);
@@ -41,12 +46,14 @@ impl History<'_> {
             11 => self.lookup(),
             12 | 13 => self.refused_call(),
             14 => self.agreement(),
+            15 | 16 => self.discard(),
             _ if self.random.once_in(8) => self.reformat(),
             _ => self.lookup(),
         }
     }
 
-    /// Formats again, with an N that may be another one of as many groups.
+    /// Formats again, with an N that may be another one of as many bytes of
+    /// marks, hence of as many groups.
     fn reformat(&mut self) {
         let Device {
             blocks,
@@ -55,11 +62,8 @@ impl History<'_> {
             ..
         } = self.device;
         let full = full_device(blocks, block_pages, bound);
-        let fewest = 256 * (full.groups() as u32 - 1) + 1;
-        let logical_pages = match full.groups() == self.device.groups() {
-            true => self.random.between(fewest, full.logical_pages),
-            false => self.device.logical_pages,
-        };
+        let most = self.device.mark_bits() as u32;
+        let logical_pages = self.random.between(most - 7, most.min(full.logical_pages));
         self.events.reformat += 1;
         self.format(Device {
             logical_pages,

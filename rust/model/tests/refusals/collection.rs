@@ -5,7 +5,7 @@ use hedjosur_model::testing::rounds;
 
 use crate::expected::{assert_met, expect, first_of, Tally};
 use crate::facts::Facts;
-use crate::worlds::{any_list, any_world};
+use crate::worlds::{any_list, any_world, marks};
 
 #[test]
 fn refuses_in_order() {
@@ -58,6 +58,7 @@ fn refuses_in_order() {
                 // 'Unused entries stay.'
                 assert_eq!(lent.1[total..], plan[total..]);
                 assert_eq!(lent.2[taken as usize..], erased[taken as usize..]);
+                assert_eq!(marks(&lent.0), marks(&world));
             }
         },
     );

@@ -5,7 +5,7 @@ use hedjosur_model::testing::rounds;
 
 use crate::expected::{assert_met, expect, first_of, Tally};
 use crate::facts::Facts;
-use crate::worlds::any_world;
+use crate::worlds::{any_world, marks};
 
 #[test]
 fn refuses_in_order() {
@@ -29,6 +29,7 @@ fn refuses_in_order() {
         if let Some(left) = left {
             let (_, state) = world.lent.open().expect("a state");
             assert_eq!(left, state.groups[group as usize].size());
+            assert_eq!(marks(&world), marks(&copy));
         }
         assert_eq!(world.area, copy.area);
     });

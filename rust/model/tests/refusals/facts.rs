@@ -3,6 +3,7 @@
 use hedjosur_model::state::{Lent, State};
 use hedjosur_model::testing::World;
 
+use crate::expected::Condition;
 use crate::groups::{group_unsound, members, rise};
 
 /// What can be told of a state and its spare area without asking the model.
@@ -55,6 +56,7 @@ impl<'a> Facts<'a> {
     pub fn state_length_wrong(&self) -> bool {
         self.state.is_some_and(|state| {
             state.counts.len() as u64 != self.blocks
+                || state.marks.len() as u64 != 8 * self.logical_pages.div_ceil(8)
                 || state.groups.len() as u64 != self.group_count()
         })
     }
@@ -73,6 +75,17 @@ impl<'a> Facts<'a> {
     /// be looked at.
     pub fn readable(&self) -> bool {
         !self.outside_limits() && !self.state_length_wrong() && !self.area_length_wrong()
+    }
+
+    /// The refusals of a call about one logical page, before 7.
+    pub fn refused_for(&self, logical_page: u32) -> [Condition; 5] {
+        [
+            (1, self.outside_limits()),
+            (2, self.state_length_wrong()),
+            (2, self.area_length_wrong()),
+            (4, u64::from(logical_page) >= self.logical_pages),
+            (3, self.group_unsound((logical_page / 256) as usize)),
+        ]
     }
 
     /// Whether a count or a group is not as in a sound state.
@@ -99,9 +112,22 @@ impl<'a> Facts<'a> {
         })
     }
 
+    /// Whether a logical page is discarded. Only for a readable state.
+    pub fn discarded(&self, logical_page: u64) -> bool {
+        self.state.expect("a readable state").marks[logical_page as usize]
+    }
+
     /// The page of a logical page, None for 'not written'; an error is 7. Only
     /// for a readable state whose group is sound.
     pub fn page_of(&self, logical_page: u64) -> Result<Option<u64>, ()> {
+        match self.discarded(logical_page) {
+            true => Ok(None),
+            false => self.recorded(logical_page),
+        }
+    }
+
+    /// As [`Facts::page_of`], by the records alone.
+    pub fn recorded(&self, logical_page: u64) -> Result<Option<u64>, ()> {
         let state = self.state.expect("a readable state");
         let group = &state.groups[(logical_page / 256) as usize];
         let offset = (logical_page % 256) as u8;

@@ -5,7 +5,7 @@ use hedjosur_model::testing::{batch, full_device, rounds, Random};
 
 use crate::expected::{assert_met, expect, first_of, Tally};
 use crate::facts::Facts;
-use crate::worlds::{any_list, any_world};
+use crate::worlds::{any_list, any_world, marks};
 
 #[test]
 fn refuses_in_order() {
@@ -38,6 +38,10 @@ fn refuses_in_order() {
             // 'Later entries stay.'
             let count = answer.count as usize;
             assert_eq!(lent.1[count..], plan[count..]);
+            // The marks of what is written are cleared, and no other bit.
+            let mut kept = marks(&world).to_vec();
+            pages.iter().for_each(|&page| kept[page as usize] = false);
+            assert_eq!(marks(&lent.0), kept);
         }
     });
     assert_met(&tally, &[1, 2, 3, 4, 5, 6]);

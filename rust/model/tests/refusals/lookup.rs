@@ -1,32 +1,23 @@
 //! Lookup.
 
+use hedjosur_model::ops::Lookup;
 use hedjosur_model::testing::rounds;
 
 use crate::expected::{assert_met, expect, first_of, Tally};
 use crate::facts::Facts;
-use crate::worlds::any_world;
+use crate::worlds::{any_logical_page, any_world};
 
 #[test]
 fn refuses_in_order() {
-    let mut tally = Tally::new();
-    rounds(2500, &mut tally, |random, log, tally| {
+    let mut counts = (Tally::new(), 0);
+    rounds(2500, &mut counts, |random, log, (tally, spared)| {
         let mut world = any_world(random);
         let copy = world.clone();
         let facts = Facts::of(&copy);
         for _ in 0..4 {
-            let beyond = facts.logical_pages.min(1 << 31) as u32 + 1;
-            let logical_page = match random.once_in(12) {
-                true => u32::MAX,
-                false => random.below(beyond),
-            };
+            let logical_page = any_logical_page(random, &facts);
             log.note(("lookup", &copy, logical_page));
-            let refused = [
-                (1, facts.outside_limits()),
-                (2, facts.state_length_wrong()),
-                (2, facts.area_length_wrong()),
-                (4, u64::from(logical_page) >= facts.logical_pages),
-                (3, facts.group_unsound((logical_page / 256) as usize)),
-            ];
+            let refused = facts.refused_for(logical_page);
             let looked_up = match first_of(&refused) {
                 0 => facts.page_of(logical_page.into()),
                 _ => Ok(None),
@@ -37,8 +28,14 @@ fn refuses_in_order() {
             });
             if let Some(answer) = answer {
                 assert_eq!(Ok(answer.page().map(u64::from)), looked_up);
+                if facts.discarded(logical_page.into()) {
+                    assert_eq!(answer, Lookup::NotWritten { levels: 0 });
+                    *spared += u32::from(facts.recorded(logical_page.into()).is_err());
+                }
             }
         }
     });
+    let (tally, spared) = counts;
     assert_met(&tally, &[1, 2, 3, 4, 7]);
+    assert!(spared > 0, "no discarded page was spared refusal 7");
 }

@@ -6,6 +6,8 @@ use hedjosur_model::testing::{
     any_area, full_device, small_device, sound_state, Random, World, SPOILERS,
 };
 
+use crate::facts::Facts;
+
 /// A state and a spare area of any kind: lived in or arbitrary, then perhaps
 /// made wrong in one way or a few.
 pub fn any_world(random: &mut Random) -> World {
@@ -31,7 +33,7 @@ pub fn any_world(random: &mut Random) -> World {
 
 /// Changes one thing: a number, a length, the counts, a group or an entry.
 fn make_wrong(random: &mut Random, world: &mut World) {
-    let change = random.below(16);
+    let change = random.below(18);
     let block = random.bits() as usize;
     let World { lent, area } = world;
     let Lent::Held(state) = lent else { return };
@@ -44,19 +46,25 @@ fn make_wrong(random: &mut Random, world: &mut World) {
             let number = &mut state.numbers[random.below(3) as usize];
             *number = number.saturating_add(1);
         }
-        3 => state.numbers[2] = (state.numbers[2] / 2).max(1),
+        3 => {
+            let half = (state.numbers[2] / 2).max(1);
+            state.numbers[2] = half;
+            state.marks.truncate((half as usize).next_multiple_of(8));
+        }
         4 => drop(state.counts.pop()),
         5 => state.counts.push(0),
         6 => state.groups.push(Group::default()),
-        7 => drop(area.pop()),
-        8 => area.push(0),
-        9 if !state.counts.is_empty() => state.counts[block] = state.numbers[1].saturating_add(1),
-        10 => state
+        7 => state.marks.extend([false; 8]),
+        8 => state.marks.truncate(state.marks.len().saturating_sub(8)),
+        9 => drop(area.pop()),
+        10 => area.push(0),
+        11 if !state.counts.is_empty() => state.counts[block] = state.numbers[1].saturating_add(1),
+        12 => state
             .counts
             .iter_mut()
             .for_each(|count| *count = 1.max(*count)),
-        11 => state.counts.fill(0),
-        12 if !area.is_empty() => {
+        13 => state.counts.fill(0),
+        14 if !area.is_empty() => {
             let entry = random.below(area.len() as u32) as usize;
             area[entry] = random.below(state.numbers[2].max(1));
         }
@@ -71,6 +79,21 @@ pub fn spoil(random: &mut Random, state: &mut State) {
     let last = logical_pages.clamp(1, 256) - 1;
     let spoiler = random.pick(SPOILERS);
     (spoiler.spoil)(&mut state.groups[number], last as u8);
+}
+
+/// A logical page, now and then one that is N or more.
+pub fn any_logical_page(random: &mut Random, facts: &Facts) -> u32 {
+    let beyond = facts.logical_pages.min(1 << 31) as u32 + 1;
+    match random.once_in(12) {
+        true => u32::MAX,
+        false => random.below(beyond),
+    }
+}
+
+/// The marks of a state, with the bits behind the last one.
+pub fn marks(world: &World) -> &[bool] {
+    let (_, state) = world.lent.open().expect("a state");
+    &state.marks
 }
 
 /// A list that is mostly as long as wanted.

@@ -1,0 +1,21 @@
+-- A byte that is 0 has none.
+use native.Mathlib.Omega.{arith}
+use mathlib.Core.Path.{sym, _∙_}
+use Rattle.model.specs.Marks.{markByte}
+use Rattle.model.proofs.Marks.{mark-inside, zero-unmarked}
+use Rattle.state.proofs.marks.has_marks.Statement.{statement}
+use Rattle.state.proofs.marks.has_marks.Tie as tie
+
+marks-byte-requires : tie.Need-marks-byte-requires
+unfolding markByte
+marks-byte-requires c κs = (c .before .pre .0, mark-inside _ _ (c .before .pre .1))
+
+returns : tie.Need-returns
+unfolding markByte
+returns c = (omega arith, λ _. zero-unmarked _ _ (sym (c .before .marks-byte .ensures .0) ∙ c .if1 .taken))
+
+returns-2 : tie.Need-returns-2
+returns-2 c = (omega arith, λ e. absurd (omega arith))
+
+pub has-marks-spec : {M : Type 1} → statement M
+has-marks-spec = tie.close (tie.spec marks-byte-requires returns returns-2)
