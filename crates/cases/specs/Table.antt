@@ -1,5 +1,5 @@
--- Document 01, 'Cases': those marked P, with one of a discarded page (document 02, a), as one table. What the definitions give is what
--- the documents say. Assumes nothing.
+-- Document 01, 'Cases': those marked P, with one of a discarded page and two of wrong predictions (document 02, a and b), as one table.
+-- What the definitions give is what the documents say. Assumes nothing.
 use mathlib.Core.Path.{_≡_, refl}
 use mathlib.Core.List.{List, [], _∷_, _++_}
 use Prim.Native.Nat.{ℕ, zero, suc}
@@ -52,6 +52,9 @@ given =
     ∷ learned 0 64 (101 ∷ 103 ∷ [])
     ∷ learned 1 64 (0 ∷ 1 ∷ 4 ∷ 5 ∷ [])
     ∷ predicted 1 64 (0 ∷ 1 ∷ 4 ∷ 5 ∷ [])
+    ∷ learned 1 64 (0 ∷ 1 ∷ 2 ∷ 6 ∷ [])
+    ∷ predicted 1 64 (0 ∷ 1 ∷ 2 ∷ 6 ∷ [])
+    ∷ learned 1 64 (0 ∷ 1 ∷ 2 ∷ 3 ∷ 6 ∷ 14 ∷ 34 ∷ [])
     ∷ learned 0 64 (0 ∷ 1 ∷ 4 ∷ 5 ∷ [])
     ∷ learned 0 0 (255 ∷ 256 ∷ [])
     ∷ learned 1 0 (255 ∷ 256 ∷ [])
@@ -65,9 +68,14 @@ stated =
     records (row 0 100 6 4 (negsuc 49) ∷ [])
     -- "g 0, batch 101, 103 from page 64: 101, 2, 4, 13"
     ∷ records (row 0 101 2 4 (pos 13) ∷ [])
-    -- "g 1, batch 0, 1, 4, 5 from page 64: 0, 5, 3, 65; predictions 65, 66, 66, 66"
-    ∷ records (row 0 0 5 3 (pos 65) ∷ [])
-    ∷ predictions (pos 65 ∷ pos 66 ∷ pos 66 ∷ pos 66 ∷ [])
+    -- "case 0, 1, 4, 5 from page 64 becomes 0, 5, 207, 64" at g 1; predictions 64, 65, 66, 67
+    ∷ records (row 0 0 5 207 (pos 64) ∷ [])
+    ∷ predictions (pos 64 ∷ pos 65 ∷ pos 66 ∷ pos 67 ∷ [])
+    -- g 1, batch 0, 1, 2, 6 from page 64: slope 86 with one wrong prediction, page 65 for 2; the smallest, 1, has three
+    ∷ records (row 0 0 6 173 (pos 64) ∷ [])
+    ∷ predictions (pos 64 ∷ pos 65 ∷ pos 65 ∷ pos 67 ∷ [])
+    -- g 1, batch 0, 1, 2, 3, 6, 14, 34 from page 64: of slope 86's intercepts 64 and 65, each with three wrong ones of six, the smaller
+    ∷ records (row 0 0 14 173 (pos 64) ∷ row 0 34 0 0 (pos 70) ∷ [])
     -- "g 0, the same: 0, 1, 2, 64 and 4, 1, 2, 62"
     ∷ records (row 0 0 1 2 (pos 64) ∷ row 0 4 1 2 (pos 62) ∷ [])
     -- "batch 255, 256 from page 0: singles 255, 0, 0, 0 and 0, 0, 0, 1 in two groups", at g 0 and at g 1
@@ -99,8 +107,8 @@ stated =
     ∷ answer (found 50 50 2) [] []
     -- "lookup 78: page 193, 2 levels"
     ∷ answer (found 193 193 2) [] []
-    -- "lookup 82: predicted 193, page 194"
-    ∷ answer (found 194 193 2) [] []
+    -- "its script's lookup 82 predicts 194"
+    ∷ answer (found 194 194 2) [] []
     -- "lookup 78: page 366, 1 level"
     ∷ answer (found 366 366 1) [] []
     ∷ []

@@ -1,12 +1,11 @@
 pub mod Differences
-pub mod AheadOf
-pub mod Ascent
+pub mod Grouping
 pub mod Strides
 pub mod AccurateAt
-pub mod Fits
-pub mod Reaching
-pub mod Searching
-pub mod Bettering
+pub mod FullGroup
+pub mod Shifting
+pub mod LastSlope
+pub mod BestOfSlopes
 pub mod Choosing
 pub mod RunHeld
 pub mod Storing

@@ -20,7 +20,8 @@ use Rattle.model.proofs.Parts.{asc-drop}
 use Rattle.model.proofs.Runs.{Part, runs-parted}
 use Rattle.record.specs.Read.{bare}
 use Rattle.record.specs.Coding.{InEight}
-use Rattle.learn.specs.Runs.{aheadOf, offsetsBehind, runAt}
+use Rattle.slopes.specs.Places.{aheadOf, offsetsBehind}
+use Rattle.learn.specs.Runs.{runAt}
 
 pub sound-stride : (d : ℕ) (r : Record) → soundAs (accurate d) r ≡ true → d ≤ 255
 unfolding soundAs

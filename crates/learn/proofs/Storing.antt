@@ -11,7 +11,8 @@ use Rattle.model.specs.Learning.{Bounds, Run, runs}
 use Rattle.model.proofs.Lists.{store-nil, store-first}
 use Rattle.record.specs.declared.Record.{Record}
 use Rattle.record.specs.Read.{bare}
-use Rattle.learn.specs.Runs.{aheadOf, offsetsBehind, runAt, records, counts}
+use Rattle.slopes.specs.Places.{aheadOf, offsetsBehind}
+use Rattle.learn.specs.Runs.{runAt, records, counts}
 
 module _ (b : Bounds) (w : List ℕ) where
   -- the runs that are left at place i, behind n runs

@@ -1,16 +1,18 @@
 -- The greedy rule over the offsets that a run can take: no run is longer than the one that is computed; of approximate ones as long
--- none has a smaller slope, none of its slope a smaller intercept; and which of the two is taken. Assumes nothing.
-use mathlib.Core.Path.{_≡_, refl, sym, _∙_}
+-- none has fewer wrong predictions, of those with as many none a smaller slope, none of its slope a smaller intercept; and which of the
+-- two is taken. Assumes nothing.
+use mathlib.Core.Path.{_≡_, refl, sym, ap}
 use mathlib.Core.List.{List, [], _∷_}
 use mathlib.Core.Logic.{_⊎_, inl, inr}
 use mathlib.Core.Bool.{Bool, true, false}
-use Prim.Native.Nat.{ℕ, zero, suc, _+_, _≤_, _<_, suc-le-suc}
+use Prim.Native.Nat.{ℕ, zero, suc, _+_, _-_, _≤_, _<_, suc-le-suc}
 use native.Mathlib.Omega.{arith}
 use lib.Dec.{ltb, leb, eqb}
 use lib.ListN.{length, getD}
 use borrow.Author.Tests.{ltb-true, ltb-false, leb-false, eqb-true, eqb-false, eq-eqb}
-use Rattle.model.specs.Learning.{Bounds, Intercepts, Fit, Run, strideLength, accurateRun, suiting, common, longer, extend, fit, better, bestFit, approximateRun, longerRun, nextRun}
+use Rattle.model.specs.Learning.{Bounds, Intercepts, Fit, Run, strideLength, accurateRun, suiting, common, Reach, longer, extend, reach, fitOf, better, bestOf, fit, bestFit, approximateRun, longerRun, nextRun}
 use Rattle.model.proofs.Lists.{le-cases}
+use Rattle.model.proofs.Fewest.{AsGood, as-first, as-second, best-one, best-each}
 use Rattle.model.proofs.Approximation.{Among, SuitsFirst}
 
 -- The count of the stride stops no earlier than the stride: it has all m offsets behind x of which each is d above the one before.
@@ -23,23 +25,22 @@ stride-most d x (y ∷ l) (suc m) h f =
     rw (eq-eqb y (x + d) (f 0 (omega arith)), strideLength)
     (suc-le-suc (stride-most d y l m (omega arith) (λ i k. f (suc i) (omega arith))))
 
--- no intercept of the slopes from s to t suits more of the offsets than f; one that suits as many has a greater slope, or f's and is
--- no smaller
+-- f is as good as each run of a slope from s to t and an intercept that suits its offsets
 abbrev pub Greatest : Bounds → ℕ → List ℕ → ℕ → ℕ → Fit → Type 0
-Greatest b p xs s t f = (a u n : ℕ) → s ≤ a → a ≤ t → n ≤ length xs → SuitsFirst b a u p xs n
-    → (n ≤ f .size) × (n ≡ f .size → (f .slope < a) ⊎ ((f .slope ≡ a) × (f .least ≤ u)))
+Greatest b p xs s t f = (a u n : ℕ) → s ≤ a → a ≤ t → n ≤ length xs → SuitsFirst b a u p xs n → AsGood f (fitOf p xs n a u)
 
-extend-greatest : (b : Bounds) (a : ℕ) (i : Intercepts) (p : ℕ) (l : List ℕ) (u n : ℕ) → Among i u → n ≤ length l → SuitsFirst b a u p l n
-    → (n ≤ extend b a i p l .size) × (n ≡ extend b a i p l .size → extend b a i p l .least ≤ u)
+-- an intercept suits no more of the offsets than are reached; one that suits as many is among those found
+abbrev Farthest : ℕ → ℕ → Reach → Type 0
+Farthest u n r = (n ≤ r .size) × (n ≡ r .size → Among (r .suit) u)
+
+extend-farthest : (b : Bounds) (a : ℕ) (i : Intercepts) (p : ℕ) (l : List ℕ) (u n : ℕ) → Among i u → n ≤ length l → SuitsFirst b a u p l n
+    → Farthest u n (extend b a i p l)
 unfolding extend longer common
-extend-greatest b a i p [] u n h k s = (k, λ e. h .0)
-extend-greatest b a i p (o ∷ l) u n h k s = go n (leb (c .least) (c .most)) refl k s (λ m. extend-greatest b a c (suc p) l u m)
+extend-farthest b a i p [] u n h k s = (k, λ e. h)
+extend-farthest b a i p (o ∷ l) u n h k s = go n (leb (c .least) (c .most)) refl k s (λ m. extend-farthest b a c (suc p) l u m)
   where
     c : Intercepts
     c = common i (suiting b a o p)
-
-    Result : Fit → ℕ → Type 0
-    Result f n = (n ≤ f .size) × (n ≡ f .size → f .least ≤ u)
 
     later : {m : ℕ} → SuitsFirst b a u p (o ∷ l) (suc m) → SuitsFirst b a u (suc p) l m
     later s j q = let e : p + suc j ≡ suc p + j = omega arith in rw e at (s (suc j) (omega arith))
@@ -48,73 +49,69 @@ extend-greatest b a i p (o ∷ l) u n h k s = go n (leb (c .least) (c .most)) re
     here s = let e : p + 0 ≡ p = omega arith in let q : Among (suiting b a o p) u = rw e at (s 0 (omega arith)) in omega arith
 
     go : (n : ℕ) (t : Bool) → leb (c .least) (c .most) ≡ t → n ≤ length (o ∷ l) → SuitsFirst b a u p (o ∷ l) n
-        → ((m : ℕ) → Among c u → m ≤ length l → SuitsFirst b a u (suc p) l m → Result (extend b a c (suc p) l) m)
-        → Result (extend b a i p (o ∷ l)) n
+        → ((m : ℕ) → Among c u → m ≤ length l → SuitsFirst b a u (suc p) l m → Farthest u m (extend b a c (suc p) l))
+        → Farthest u n (extend b a i p (o ∷ l))
     go zero true e k s ih = rw (e, extend) (omega arith, λ q. absurd (omega arith))
-    go zero false e k s ih = rw (e, extend) (omega arith, λ q. h .0)
+    go zero false e k s ih = rw (e, extend) (omega arith, λ q. h)
     go (suc m) true e k s ih =
         let r = ih m (here s) (omega arith) (later s) in
         rw (e, extend) (omega (arith, r .0), λ q. r .1 (omega arith))
     go (suc m) false e k s ih = let q : Among c u = here s in absurd (omega (arith, leb-false (c .least) (c .most) e))
 
-extend-slope : (b : Bounds) (a : ℕ) (i : Intercepts) (p : ℕ) (l : List ℕ) → extend b a i p l .slope ≡ a
-unfolding extend longer
-extend-slope b a i p [] = refl
-extend-slope b a i p (o ∷ l) = go (leb (c .least) (c .most)) refl (extend-slope b a c (suc p) l)
+reach-farthest : (b : Bounds) (a p x : ℕ) (l : List ℕ) (u n : ℕ) → n ≤ length (x ∷ l) → SuitsFirst b a u p (x ∷ l) n
+    → Farthest u n (reach b a p x l)
+unfolding reach longer
+reach-farthest b a p x l u zero m q = (omega arith, λ r. absurd (omega arith))
+reach-farthest b a p x l u (suc n) m q =
+    let r = extend-farthest b a (suiting b a x p) (suc p) l u n here (omega arith) later in
+    (omega (arith, r .0), λ w. r .1 (omega arith))
   where
-    c : Intercepts
-    c = common i (suiting b a o p)
+    later : SuitsFirst b a u (suc p) l n
+    later j r = let w : p + suc j ≡ suc p + j = omega arith in rw w at (q (suc j) (omega arith))
 
-    go : (t : Bool) → leb (c .least) (c .most) ≡ t → extend b a c (suc p) l .slope ≡ a → extend b a i p (o ∷ l) .slope ≡ a
-    go true e ih = rw (e, extend) ih
-    go false e ih = rw (e, extend)
+    here : Among (suiting b a x p) u
+    here = let w : p + 0 ≡ p = omega arith in rw w at (q 0 (omega arith))
+
+-- the slope and the length of a slope's best intercept
+best-slope : (p : ℕ) (xs : List ℕ) (n a i m : ℕ) → bestOf p xs n a i m .slope ≡ a
+unfolding fitOf
+best-slope p xs n a i m = ap (λ (f : Fit). f .slope) (best-one p xs n a i m .is)
+
+pub best-size : (p : ℕ) (xs : List ℕ) (n a i m : ℕ) → bestOf p xs n a i m .size ≡ n
+unfolding fitOf
+best-size p xs n a i m = ap (λ (f : Fit). f .size) (best-one p xs n a i m .is)
 
 fit-greatest : (b : Bounds) (p x : ℕ) (l : List ℕ) (a : ℕ) → Greatest b p (x ∷ l) a a (fit b a p x l)
-unfolding fit longer
-fit-greatest b p x l a s u n h k m q = go n m (rw e at q)
+unfolding fit fitOf
+fit-greatest b p x l a s u n h k m q = rw e (go (reach b a p x l) (reach-farthest b a p x l u n m (rw e at q)))
   where
     e : s ≡ a
     e = omega arith
 
-    f : Fit
-    f = extend b a (suiting b a x p) (suc p) l
-
-    later : {m : ℕ} → SuitsFirst b a u p (x ∷ l) (suc m) → SuitsFirst b a u (suc p) l m
-    later s j r = let w : p + suc j ≡ suc p + j = omega arith in rw w at (s (suc j) (omega arith))
-
-    here : {m : ℕ} → SuitsFirst b a u p (x ∷ l) (suc m) → Among (suiting b a x p) u
-    here s = let w : p + 0 ≡ p = omega arith in rw w at (s 0 (omega arith))
-
-    go : (n : ℕ) → n ≤ length (x ∷ l) → SuitsFirst b a u p (x ∷ l) n
-        → (n ≤ suc (f .size)) × (n ≡ suc (f .size) → (f .slope < s) ⊎ ((f .slope ≡ s) × (f .least ≤ u)))
-    go zero m q = (omega arith, λ r. absurd (omega arith))
-    go (suc n) m q =
-        let r = extend-greatest b a (suiting b a x p) (suc p) l u n (here q) (omega arith) (later q) in
-        (omega (arith, r .0), λ w. inr (extend-slope b a (suiting b a x p) (suc p) l ∙ sym e, r .1 (omega arith)))
+    go : (r : Reach) → Farthest u n r
+        → AsGood (bestOf p (x ∷ l) (r .size) a (r .suit .least) (r .suit .most - r .suit .least)) (fitOf p (x ∷ l) n a u)
+    go r t =
+        let z = best-size p (x ∷ l) (r .size) a (r .suit .least) (r .suit .most - r .suit .least) in (
+          omega (arith, z, t .0),
+          λ d.
+              let w : n ≡ r .size = omega (arith, d, z) in
+              let v : Among (r .suit) u = t .1 w in
+              rw w (best-each p (x ∷ l) (r .size) a (r .suit .least) (r .suit .most - r .suit .least) u (v .0) (omega arith) .1 (sym z)),
+        )
 
 -- the better of a slope's fit and a fit of slopes above it
 better-greatest : (b : Bounds) (p : ℕ) (xs : List ℕ) (a t : ℕ) (f f′ : Fit) → f .slope ≡ a → Greatest b p xs a a f
     → Greatest b p xs (suc a) t f′ → Greatest b p xs a t (better f f′)
-unfolding better
-better-greatest b p xs a t f f′ e h k s u n lo hi m q = go (ltb (f .size) (f′ .size)) refl (le-cases a s lo)
+unfolding fitOf
+better-greatest b p xs a t f f′ e h k s u n lo hi m q = go (le-cases a s lo)
   where
-    go : (v : Bool) → ltb (f .size) (f′ .size) ≡ v → (s ≡ a) ⊎ (suc a ≤ s)
-        → (n ≤ better f f′ .size) × (n ≡ better f f′ .size → (better f f′ .slope < s) ⊎ ((better f f′ .slope ≡ s) × (better f f′ .least ≤ u)))
-    go true w (inl c) =
-        let r = h s u n lo (omega arith) m q in
-        rw (w, better) (
-          omega (arith, r .0, ltb-true (f .size) (f′ .size) w),
-          λ d. absurd (omega (arith, r .0, ltb-true (f .size) (f′ .size) w)),
-        )
-    go true w (inr c) = rw (w, better) (k s u n c hi m q)
-    go false w (inl c) = rw (w, better) (h s u n lo (omega arith) m q)
-    go false w (inr c) =
-        let r = k s u n c hi m q in
-        rw (w, better) (omega (arith, r .0, ltb-false (f .size) (f′ .size) w), λ d. inl (omega arith))
+    go : (s ≡ a) ⊎ (suc a ≤ s) → AsGood (better f f′) (fitOf p xs n s u)
+    go (inl c) = as-first f f′ (fitOf p xs n s u) (h s u n lo (omega arith) m q)
+    go (inr c) = as-second f f′ (fitOf p xs n s u) (k s u n c hi m q) (inl (omega arith))
 
 fit-slope : (b : Bounds) (a p x : ℕ) (l : List ℕ) → fit b a p x l .slope ≡ a
-unfolding fit longer
-fit-slope b a p x l = extend-slope b a (suiting b a x p) (suc p) l
+unfolding fit
+fit-slope b a p x l = best-slope p (x ∷ l) _ a _ _
 
 -- The best fit of slopes a to a + n is the greatest.
 pub best-greatest : (b : Bounds) (p x : ℕ) (l : List ℕ) (a n : ℕ) → Greatest b p (x ∷ l) a (a + n) (bestFit b p (x ∷ l) a n)

@@ -1,31 +1,37 @@
 -- The greedy rule leaves no choice: of the runs at a place, and of the runs of a list of pages, only one is its. Assumes nothing.
 use mathlib.Core.Path.{_≡_, refl, sym, _∙_, ap, ap₂}
 use mathlib.Core.List.{List, _∷_}
-use mathlib.Core.Logic.{_⊎_, inl, inr}
-use Prim.Native.Nat.{ℕ, _+_, _<_}
+use Prim.Native.Nat.{ℕ, _+_}
 use native.Mathlib.Omega.{arith}
 use lib.IntN.{ℤ}
-use lib.ListN.{drop}
+use lib.ListN.{take, drop}
 use Rattle.model.specs.Record.{Record}
 use Rattle.model.specs.Learning.{Run, Bounds}
-use Rattle.model.specs.Demand2.{ApproximateRun, AtMost, accurateOf, GreedyRun, Greedy}
+use Rattle.model.specs.Demand2.{ApproximateRun, wrongPredictions, Preferred, fewer, flatter, lower, accurateOf, GreedyRun, Greedy}
 use Rattle.model.proofs.Integers.{at-most-both}
 
+-- two lines of which each is preferred to the other are the same
+preferred-both : {w a v c : ℕ} {I J : ℤ} → Preferred w a I v c J → Preferred v c J w a I → (a ≡ c) × (I ≡ J)
+preferred-both (fewer h) (fewer k) = absurd (omega arith)
+preferred-both (fewer h) (flatter k m) = absurd (omega arith)
+preferred-both (fewer h) (lower k m n) = absurd (omega arith)
+preferred-both (flatter h i) (fewer k) = absurd (omega arith)
+preferred-both (flatter h i) (flatter k m) = absurd (omega arith)
+preferred-both (flatter h i) (lower k m n) = absurd (omega arith)
+preferred-both (lower h i j) (fewer k) = absurd (omega arith)
+preferred-both (lower h i j) (flatter k m) = absurd (omega arith)
+preferred-both {I} {J} (lower h i j) (lower k m n) = (i, at-most-both I J j n)
+
 module _ (b : Bounds) (p : ℕ) (l : List ℕ) where
-  -- no approximate run of n pages has a smaller slope than a or, with that slope, a smaller intercept than I
-  abbrev Smallest : ℕ → ℕ → ℤ → Type 0
-  Smallest n a I = (a′ : ℕ) (J : ℤ) → ApproximateRun b p l n a′ J → (a < a′) ⊎ ((a ≡ a′) × AtMost I J)
+  -- slope a and intercept I are preferred to those of every approximate run of n pages
+  abbrev Best : ℕ → ℕ → ℤ → Type 0
+  Best n a I = (c : ℕ) (J : ℤ) → ApproximateRun b p l n c J
+      → Preferred (wrongPredictions a I p (take n l)) a I (wrongPredictions c J p (take n l)) c J
 
   -- so there is one slope and one intercept of that kind
-  same-line : (n n′ a a′ : ℕ) (I I′ : ℤ) → n ≡ n′ → ApproximateRun b p l n a I → ApproximateRun b p l n′ a′ I′ → Smallest n a I
-      → Smallest n′ a′ I′ → (a ≡ a′) × (I ≡ I′)
-  same-line n n′ a a′ I I′ e r r′ s s′ = go (s a′ I′ (rw e r′)) (s′ a I (rw e at r))
-    where
-      go : (a < a′) ⊎ ((a ≡ a′) × AtMost I I′) → (a′ < a) ⊎ ((a′ ≡ a) × AtMost I′ I) → (a ≡ a′) × (I ≡ I′)
-      go (inl h) (inl k) = absurd (omega arith)
-      go (inl h) (inr k) = absurd (omega (arith, k .0))
-      go (inr h) (inl k) = absurd (omega (arith, h .0))
-      go (inr h) (inr k) = (h .0, at-most-both I I′ (h .1) (k .1))
+  same-line : (n a a′ : ℕ) (I I′ : ℤ) → ApproximateRun b p l n a I → ApproximateRun b p l n a′ I′ → Best n a I → Best n a′ I′
+      → (a ≡ a′) × (I ≡ I′)
+  same-line n a a′ I I′ r r′ s s′ = preferred-both (s a′ I′ r′) (s′ a I r)
 
   -- The run at a place is one.
   run-only : {r r′ : Record} {n n′ : ℕ} → GreedyRun b p l r n → GreedyRun b p l r′ n′ → (r ≡ r′) × (n ≡ n′)
@@ -41,7 +47,7 @@ module _ (b : Bounds) (p : ℕ) (l : List ℕ) where
   run-only (GreedyRun.approximate n a I c f g s) (GreedyRun.accurate n′ h′ c′ f′ g′) = absurd (omega (arith, g′ n a I c, f n′ c′))
   run-only (GreedyRun.approximate n a I c f g s) (GreedyRun.approximate n′ a′ I′ c′ f′ g′ s′) =
       let e : n ≡ n′ = omega (arith, g n′ a′ I′ c′, g′ n a I c) in
-      let (u, v) = same-line n n′ a a′ I I′ e c c′ s s′ in
+      let (u, v) = same-line n a a′ I I′ c (rw e c′) s (rw e s′) in
       (rw (e, u, v), e)
 
 same-run : (r r′ : Run) → r .group ≡ r′ .group → r .learned ≡ r′ .learned → r .taken ≡ r′ .taken → r ≡ r′

@@ -9,14 +9,16 @@ use lib.IntN.{ℤ, pos, subℕ, _+ℤ_}
 use lib.ListN.{length, getD, take, drop}
 use Rattle.model.specs.Lists.{lastOf}
 use Rattle.model.specs.Device.{ceil, groupOf, offsetOf}
-use Rattle.model.specs.Learning.{Run, Bounds, Fit, strideLength, accurateRun, suiting, bestFit, approximateRecord, approximateRun, ahead, learn}
-use Rattle.model.specs.Demand2.{AccurateRun, Near, ApproximateRun, AtMost, stride, offsets, singleOf, accurateOf, approximateOf, GreedyRun, Greedy, boundsOf}
+use Rattle.model.specs.Learning.{Run, Bounds, Fit, strideLength, accurateRun, suiting, wrongs, fitOf, bestFit, approximateRecord, approximateRun, ahead, learn}
+use Rattle.model.specs.Demand2.{AccurateRun, Near, ApproximateRun, wrongPredictions, Preferred, stride, offsets, singleOf, accurateOf, approximateOf, GreedyRun, Greedy, boundsOf}
 use Rattle.model.proofs.Lists.{Asc, next, elem-getD}
 use Rattle.model.proofs.Parts.{take-pred, last-take}
 use Rattle.model.proofs.Integers.{sum-more, two-sums, at-most}
 use Rattle.model.proofs.Ahead.{Leading, leading, leading-asc, leading-below, leading-group, leading-page, leading-take}
 use Rattle.model.proofs.Run.{sub-plus}
 use Rattle.model.proofs.Stride.{stride-inside, from-two}
+use Rattle.model.proofs.Fewest.{Before}
+use Rattle.model.proofs.WrongPredictions.{wrong-is}
 use Rattle.model.proofs.Approximation.{Among, SuitsFirst, Fitting, best-fitting, rise-small, suits-near}
 use Rattle.model.proofs.Greedy.{Greatest, stride-most, best-greatest, Chosen, accurately, approximately, next-chosen}
 use Rattle.model.proofs.Runs.{Part, firstRun, Room, first-part, runs-all}
@@ -117,39 +119,49 @@ module _ (b : Bounds) (p : ℕ) (l xs : List ℕ) (c : Leading l xs) where
       near-suits b a (getD xs i 0) (p + i) u I e (r .slope) (below i k) (rw (c .offset i k) (r .near i h))
 
   -- A fit's intercept less 256 gives an approximate run.
-  fit-run : (f : Fit) → 1 ≤ b .g → Fitting b p xs f → ApproximateRun b p l (f .size) (f .slope) (subℕ (f .least) 256)
+  fit-run : (f : Fit) → 1 ≤ b .g → Fitting b p xs f → ApproximateRun b p l (f .size) (f .slope) (subℕ (f .intercept) 256)
   fit-run f g t = record {
     bound = g;
     slope = t .slope;
     oneGroup = leading-group l xs c (f .size) (t .filled) (t .inside);
     near = λ i h.
         let k : i < length xs = omega (arith, h, t .inside) in
-        rw (c .offset i k) at (suits-near b (f .slope) (getD xs i 0) (p + i) (f .least) (t .slope) (below i k) (t .suits i h));
+        rw (c .offset i k) at (suits-near b (f .slope) (getD xs i 0) (p + i) (f .intercept) (t .slope) (below i k) (t .suits i h));
   }
 
   -- No approximate run is longer than the greatest fit ..
   fit-longest : (f : Fit) → Greatest b p xs 0 256 f → (n a : ℕ) (I : ℤ) → ApproximateRun b p l n a I → n ≤ f .size
+  unfolding fitOf
   fit-longest f m n a I r =
       let (u, e) = biased n a I r in
       m a u n (omega arith) (r .slope) (c .most n (r .oneGroup)) (run-suits n a u I e r) .0
 
-  -- .. and one as long has a greater slope, or the same and no smaller intercept.
-  fit-smallest : (f : Fit) → Greatest b p xs 0 256 f → (a : ℕ) (J : ℤ) → ApproximateRun b p l (f .size) a J
-      → (f .slope < a) ⊎ ((f .slope ≡ a) × AtMost (subℕ (f .least) 256) J)
-  fit-smallest f m a J r =
+  -- .. and it is preferred to one as long.
+  fit-preferred : (f : Fit) → Fitting b p xs f → Greatest b p xs 0 256 f → (a : ℕ) (J : ℤ) → ApproximateRun b p l (f .size) a J
+      → Preferred (wrongPredictions (f .slope) (subℕ (f .intercept) 256) p (take (f .size) l)) (f .slope) (subℕ (f .intercept) 256)
+      (wrongPredictions a J p (take (f .size) l)) a J
+  unfolding fitOf
+  fit-preferred f t m a J r =
       let (u, e) = biased (f .size) a J r in
-      go u e (m a u (f .size) (omega arith) (r .slope) (c .most (f .size) (r .oneGroup)) (run-suits (f .size) a u J e r) .1 refl)
+      go u e _ _ (wrong-is (f .slope) (f .intercept) _ own p (take (f .size) l) ∙ ap (wrongs (f .slope) (f .intercept) p) members ∙ sym (t .counted))
+      (wrong-is a u J e p (take (f .size) l) ∙ ap (wrongs a u p) members)
+      (m a u (f .size) (omega arith) (r .slope) (c .most (f .size) (r .oneGroup)) (run-suits (f .size) a u J e r) .1 refl)
     where
-      own : subℕ (f .least) 256 +ℤ pos 256 ≡ pos (f .least)
-      own = sub-plus (f .least) 256 256 (omega arith) ∙ ap pos (omega arith)
+      own : subℕ (f .intercept) 256 +ℤ pos 256 ≡ pos (f .intercept)
+      own = sub-plus (f .intercept) 256 256 (omega arith) ∙ ap pos (omega arith)
 
-      go : (u : ℕ) → J +ℤ pos 256 ≡ pos u → (f .slope < a) ⊎ ((f .slope ≡ a) × (f .least ≤ u))
-          → (f .slope < a) ⊎ ((f .slope ≡ a) × AtMost (subℕ (f .least) 256) J)
-      go u e (inl q) = inl q
-      go u e (inr q) = inr (q .0, at-most (subℕ (f .least) 256) J 256 (f .least) u own e (q .1))
+      members : offsets (take (f .size) l) ≡ take (f .size) xs
+      members = leading-take l xs c (f .size) (t .inside)
+
+      go : (u : ℕ) → J +ℤ pos 256 ≡ pos u → (w v : ℕ) → w ≡ f .wrong → v ≡ wrongs a u p (take (f .size) xs)
+          → Before f (fitOf p xs (f .size) a u) → Preferred w (f .slope) (subℕ (f .intercept) 256) v a J
+      go u e w v h k (Before.fewer q) = Preferred.fewer (omega arith)
+      go u e w v h k (Before.flatter q n) = Preferred.flatter (omega arith) n
+      go u e w v h k (Before.lower q n o) =
+          Preferred.lower (omega arith) n (at-most (subℕ (f .intercept) 256) J 256 (f .intercept) u own e o)
 
 fit-record : (l : List ℕ) (x : ℕ) (os : List ℕ) (f : Fit) → Leading l (x ∷ os) → 1 ≤ f .size → f .size ≤ length (x ∷ os)
-    → approximateRecord f x (take (f .size - 1) os) ≡ approximateOf l (f .size) (f .slope) (subℕ (f .least) 256)
+    → approximateRecord f x (take (f .size - 1) os) ≡ approximateOf l (f .size) (f .slope) (subℕ (f .intercept) 256)
 unfolding approximateRecord approximateOf
 fit-record l x os f c h k =
     let n : ℕ = f .size - 1 in
@@ -167,8 +179,8 @@ approximate-greedy b k p l x os c s t g h = go (bestFit b p (x ∷ os) 0 256) (b
   where
     go : (f : Fit) → Fitting b p (x ∷ os) f → Greatest b p (x ∷ os) 0 256 f → ((m : ℕ) → AccurateRun l m → m < f .size)
         → GreedyRun b p l (approximateRecord f x (take (f .size - 1) os)) (f .size)
-    go f t m h = rw (fit-record l x os f c (t .filled) (t .inside)) (GreedyRun.approximate (f .size) (f .slope) (subℕ (f .least) 256)
-        (fit-run b p l (x ∷ os) c f g t) h (fit-longest b p l (x ∷ os) c f m) (fit-smallest b p l (x ∷ os) c f m))
+    go f t m h = rw (fit-record l x os f c (t .filled) (t .inside)) (GreedyRun.approximate (f .size) (f .slope) (subℕ (f .intercept) 256)
+        (fit-run b p l (x ∷ os) c f g t) h (fit-longest b p l (x ∷ os) c f m) (fit-preferred b p l (x ∷ os) c f t m))
 
 -- The run at a place is the greedy rule's.
 first-greedy : (b : Bounds) (p x : ℕ) (l : List ℕ) → Room b p (x ∷ l)

@@ -20,6 +20,11 @@ two-sums I c d q r e f =
     let s : pos (q + d) ≡ pos (r + c) = sym (sum-more I c q d e) ∙ ap (λ (n : ℕ). I +ℤ pos n) (add-comm c d) ∙ sum-more I d r c f in
     cc
 
+-- A sum from an integer, of another that is known.
+pub other-sum : (I : ℤ) (c d q r : ℕ) → I +ℤ pos c ≡ pos q → q + d ≡ r + c → I +ℤ pos d ≡ pos r
+other-sum I c d q r e h = cancel (I +ℤ pos d) (pos r) (pos c)
+    (+ℤ-assoc I (pos d) (pos c) ∙ ap (λ (n : ℕ). I +ℤ pos n) (add-comm d c) ∙ sum-more I c q d e ∙ ap pos h)
+
 -- Of two integers the one with the smaller sum is at most the other.
 pub at-most : (I J : ℤ) (c q r : ℕ) → I +ℤ pos c ≡ pos q → J +ℤ pos c ≡ pos r → q ≤ r → AtMost I J
 at-most I J c q r e f h = record { less = r - q; is = cancel (I +ℤ pos (r - q)) J (pos c) (sums ∙ sym f) }

@@ -1,5 +1,6 @@
 pub mod Bools
 pub mod Lists
+pub mod Ascent
 pub mod Counting
 pub mod Parts
 pub mod Limits
@@ -31,9 +32,11 @@ pub mod Integers
 pub mod Ahead
 pub mod Run
 pub mod Stride
+pub mod Fewest
 pub mod Approximation
 pub mod Greedy
 pub mod Runs
+pub mod WrongPredictions
 pub mod GreedyRuns
 pub mod GreedyOnly
 pub mod Sorting

@@ -2,11 +2,10 @@
 -- `demand-2` (proofs/Demand2.antt), of the type `Demand2` at the end of this file. Assumes nothing.
 use mathlib.Core.Path.{_≡_}
 use mathlib.Core.List.{List, [], _∷_}
-use mathlib.Core.Logic.{_⊎_}
 use mathlib.Core.Bool.{true, false}
 use mathlib.Core.Option.{Option, none, some}
 use Prim.Native.Nat.{ℕ, suc, _+_, _*_, _-_, _≤_, _<_}
-use lib.Dec.{ltb}
+use lib.Dec.{ltb, eqb}
 use lib.IntN.{ℤ, pos, negsuc, subℕ, _+ℤ_}
 use lib.ListN.{length, getD, take, drop}
 use Rattle.model.specs.Lists.{all, elem, ascending}
@@ -51,10 +50,25 @@ pub record ApproximateRun (b : Bounds) (p : ℕ) (l : List ℕ) (n a : ℕ) (I :
   pub oneGroup : OneGroup l n
   pub near : (i : ℕ) → i < n → Near b (p + i) (I +ℤ pos (ceil (a * offsetOf (getD l i 0)) 256))
 
+-- "wrong predictions": how many of the pages, the first of them on page p, get a predicted page that is not theirs
+unfoldable pub missed : ℤ → ℕ → ℕ
+missed (pos q) p = elim (eqb q p) [ true ↦ 0 | false ↦ 1 ]
+missed (negsuc m) p = 1
+
+unfoldable pub wrongPredictions : ℕ → ℤ → ℕ → List ℕ → ℕ
+wrongPredictions a I p [] = 0
+wrongPredictions a I p (x ∷ l) = missed (I +ℤ pos (ceil (a * offsetOf x) 256)) p + wrongPredictions a I (suc p) l
+
 -- an intercept is at most another
 pub record AtMost (I J : ℤ) : Type 0 where
   pub less : ℕ
   pub is : I +ℤ pos less ≡ J
+
+-- "fewest wrong predictions", then "smallest a, then smallest I": w wrong ones, slope a and intercept I against v, c and J
+pub data Preferred (w a : ℕ) (I : ℤ) (v c : ℕ) (J : ℤ) : Type 0 where
+  fewer : w < v → Preferred w a I v c J
+  flatter : w ≡ v → a < c → Preferred w a I v c J
+  lower : w ≡ v → a ≡ c → AtMost I J → Preferred w a I v c J
 
 -- the records of such runs: "I is the first page less (S / d rounded up)"; an approximate one "owns the offsets of its run"
 unfoldable pub offsets : List ℕ → List ℕ
@@ -92,11 +106,13 @@ pub data GreedyRun (b : Bounds) (p : ℕ) (l : List ℕ) : Record → ℕ → Ty
       → ((m a : ℕ) (I : ℤ) → ApproximateRun b p l m a I → m ≤ n)
       → GreedyRun b p l (accurateOf p l n) n
   -- "The longest approximate run is taken if it is longer than the accurate one": over every slope and every integer intercept;
-  -- "Among approximate runs of that length: smallest a, then smallest I."
+  -- "Among the longest approximate runs the one with fewest wrong predictions is now taken, ties as before": "smallest a, then
+  -- smallest I."
   approximate : (n a : ℕ) (I : ℤ) → ApproximateRun b p l n a I
       → ((m : ℕ) → AccurateRun l m → m < n)
       → ((m a′ : ℕ) (J : ℤ) → ApproximateRun b p l m a′ J → m ≤ n)
-      → ((a′ : ℕ) (J : ℤ) → ApproximateRun b p l n a′ J → (a < a′) ⊎ ((a ≡ a′) × AtMost I J))
+      → ((c : ℕ) (J : ℤ) → ApproximateRun b p l n c J
+      → Preferred (wrongPredictions a I p (take n l)) a I (wrongPredictions c J p (take n l)) c J)
       → GreedyRun b p l (approximateOf l n a I) n
 
 -- "Runs are taken from the left": at each place the run there, then the rest from the next place on

@@ -1,7 +1,8 @@
--- Document 01, 'Learning a batch': last arrivals, sorting, runs and their records. Assumes nothing.
+-- Document 01, 'Learning a batch': last arrivals, sorting, runs and their records; document 02, b: fewest wrong predictions. Assumes
+-- nothing.
 use mathlib.Core.List.{List, [], _∷_}
 use mathlib.Core.Option.{Option, none, some}
-use mathlib.Core.Bool.{Bool, true, false}
+use mathlib.Core.Bool.{Bool, true, false, _&&_, _||_}
 use Prim.Native.Nat.{ℕ, zero, suc, _+_, _*_, _-_, min, max}
 use lib.Dec.{ltb, leb, eqb}
 use lib.IntN.{pos, subℕ}
@@ -99,37 +100,72 @@ suiting b a o p = record {
 unfoldable pub common : Intercepts → Intercepts → Intercepts
 common i j = record { least = max (i .least) (j .least); most = min (i .most) (j .most) }
 
--- What slope a can do from a place on: the slope, how many pages its longest run takes, that run's smallest intercept plus 256.
-pub record Fit : Type 0 where
-  pub slope : ℕ
+-- How far a slope goes from a place on: how many pages its longest run takes, and the intercepts that suit them all.
+pub record Reach : Type 0 where
   pub size : ℕ
-  pub least : ℕ
+  pub suit : Intercepts
 
--- one page before a fit
-unfoldable pub longer : Fit → Fit
-longer f = record { slope = f .slope; size = suc (f .size); least = f .least }
+-- one page before a reach
+unfoldable pub longer : Reach → Reach
+longer r = record { size = suc (r .size); suit = r .suit }
 
 -- how far slope a goes on with intercepts i over the offsets, the first of them on page p
-unfoldable pub extend : Bounds → ℕ → Intercepts → ℕ → List ℕ → Fit
-extend b a i p [] = record { slope = a; size = 0; least = i .least }
+unfoldable pub extend : Bounds → ℕ → Intercepts → ℕ → List ℕ → Reach
+extend b a i p [] = record { size = 0; suit = i }
 extend b a i p (o ∷ l) =
     let j : Intercepts = common i (suiting b a o p) in
     elim (leb (j .least) (j .most)) [
       | true ↦ longer (extend b a j (suc p) l)
-      | false ↦ record { slope = a; size = 0; least = i .least }
+      | false ↦ record { size = 0; suit = i }
     ]
 
 -- the longest run of slope a from offset x on page p
-unfoldable pub fit : Bounds → ℕ → ℕ → ℕ → List ℕ → Fit
-fit b a p x l = longer (extend b a (suiting b a x p) (suc p) l)
+unfoldable pub reach : Bounds → ℕ → ℕ → ℕ → List ℕ → Reach
+reach b a p x l = longer (extend b a (suiting b a x p) (suc p) l)
 
--- the longer of two fits, the first where they are alike
+-- Wrong: the predicted page is not the member's page. 1 where slope a with an intercept, plus 256, is wrong at offset o on page p
+unfoldable pub wrongAt : ℕ → ℕ → ℕ → ℕ → ℕ
+wrongAt a i o p = elim (eqb (i + ceil (a * o) 256) (p + 256)) [ true ↦ 0 | false ↦ 1 ]
+
+-- how many "wrong predictions" they make of the offsets, the first of them on page p
+unfoldable pub wrongs : ℕ → ℕ → ℕ → List ℕ → ℕ
+wrongs a i p [] = 0
+wrongs a i p (o ∷ l) = wrongAt a i o p + wrongs a i (suc p) l
+
+-- An approximate run from a place on: its slope and intercept, plus 256, how many pages it takes, and how many of them it predicts
+-- wrongly.
+pub record Fit : Type 0 where
+  pub slope : ℕ
+  pub intercept : ℕ
+  pub size : ℕ
+  pub wrong : ℕ
+
+-- the run of slope a and an intercept over the first n of the offsets, the first of them on page p
+unfoldable pub fitOf : ℕ → List ℕ → ℕ → ℕ → ℕ → Fit
+fitOf p xs n a i = record { slope = a; intercept = i; size = n; wrong = wrongs a i p (take n xs) }
+
+-- whether a fit is longer than another, or as long with fewer wrong predictions
+unfoldable pub beats : Fit → Fit → Bool
+beats f f′ = ltb (f′ .size) (f .size) || (eqb (f .size) (f′ .size) && ltb (f .wrong) (f′ .wrong))
+
+-- "Among the longest approximate runs the one with fewest wrong predictions is now taken", the first where they are alike
 unfoldable pub better : Fit → Fit → Fit
-better f f′ = elim (ltb (f .size) (f′ .size)) [ true ↦ f′ | false ↦ f ]
+better f f′ = elim (beats f′ f) [ true ↦ f′ | false ↦ f ]
 
--- The best of slopes a to a + n: the longest; "Among approximate runs of that length: smallest a, then smallest I."
+-- the best of the intercepts i to i + m for slope a and n pages; "ties as before": "smallest I"
+unfoldable pub bestOf : ℕ → List ℕ → ℕ → ℕ → ℕ → ℕ → Fit
+bestOf p xs n a i zero = fitOf p xs n a i
+bestOf p xs n a i (suc m) = better (fitOf p xs n a i) (bestOf p xs n a (suc i) m)
+
+-- the best of slope a from offset x on page p: as far as it goes, the best of the intercepts that suit
+unfoldable pub fit : Bounds → ℕ → ℕ → ℕ → List ℕ → Fit
+fit b a p x l =
+    let r : Reach = reach b a p x l in
+    bestOf p (x ∷ l) (r .size) a (r .suit .least) (r .suit .most - r .suit .least)
+
+-- The best of slopes a to a + n; "ties as before": "smallest a, then smallest I."
 unfoldable pub bestFit : Bounds → ℕ → List ℕ → ℕ → ℕ → Fit
-bestFit b p [] a n = record { slope = a; size = 0; least = 0 }
+bestFit b p [] a n = record { slope = a; intercept = 0; size = 0; wrong = 0 }
 bestFit b p (x ∷ l) a zero = fit b a p x l
 bestFit b p (x ∷ l) a (suc n) = better (fit b a p x l) (bestFit b p (x ∷ l) (suc a) n)
 
@@ -139,7 +175,7 @@ approximateRecord f x l = record {
   start = x;
   span = lastOf x l - x;
   word = 2 * f .slope + 1;
-  intercept = subℕ (f .least) 256;
+  intercept = subℕ (f .intercept) 256;
   owned = x ∷ l;
 }
 

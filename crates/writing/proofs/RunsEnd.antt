@@ -13,7 +13,7 @@ use Rattle.model.specs.Lists.{ascending}
 use Rattle.model.specs.Learning.{recordsFor}
 use Rattle.record.specs.declared.Record.{Record}
 use Rattle.state.specs.Regions.{listFrom}
-use Rattle.learn.proofs.Ascent.{rises}
+use Rattle.model.proofs.Ascent.{rises}
 use Rattle.writing.specs.Handed.{firstPlace, runGroup, handedRun, runsFrom, endFrom, runsEnd, Counted}
 use Rattle.writing.proofs.Places.{place-le, page-inside}
 

@@ -26,20 +26,20 @@
 //! let mut device = Device { state: &mut state, spare: &mut spare };
 //! device.format(numbers)?;
 //!
-//! // Three pages arrive. They are written in the order of the plan's arrival indexes.
+//! // Four pages arrive. They are written in the order of the plan's arrival indexes.
 //! let mut plan = [0; 64];
-//! let flushed = device.flush(&[82, 75, 78], &mut plan)?;
-//! assert_eq!(flushed, Flushed { first_page: 0, count: 3 });
-//! assert_eq!(plan[..3], [1, 2, 0]);
+//! let flushed = device.flush(&[6, 0, 2, 1], &mut plan)?;
+//! assert_eq!(flushed, Flushed { first_page: 0, count: 4 });
+//! assert_eq!(plan[..4], [1, 3, 2, 0]);
 //!
-//! // One record predicts all three; one prediction is off by one page.
-//! let found = device.lookup(78)?;
-//! assert_eq!(found, Lookup::Found { page: 1, predicted: 1, levels: 1 });
+//! // One record predicts all four; one prediction is off by one page.
+//! let found = device.lookup(6)?;
+//! assert_eq!(found, Lookup::Found { page: 3, predicted: 3, levels: 1 });
 //! assert_eq!(found.reads(), 1);
-//! let found = device.lookup(82)?;
+//! let found = device.lookup(2)?;
 //! assert_eq!(found, Lookup::Found { page: 2, predicted: 1, levels: 1 });
 //! assert_eq!(found.reads(), 2);
-//! assert_eq!(device.lookup(76)?, Lookup::NotWritten { levels: 1 });
+//! assert_eq!(device.lookup(5)?, Lookup::NotWritten { levels: 1 });
 //! # Ok::<(), hedjosur::Refusal>(())
 //! ```
 //!

@@ -58,7 +58,7 @@ fn the_script_of_document_01() {
     }
     assert_eq!(device.lookup(50), found(50, 50, 2));
     assert_eq!(device.lookup(78), found(193, 193, 2));
-    assert_eq!(device.lookup(82), found(194, 193, 2));
+    assert_eq!(device.lookup(82), found(194, 194, 2));
     assert!(device.flush(&ascending(32, 90), &mut plan).is_ok());
     assert_eq!(device.lookup(78), found(366, 366, 1));
     assert_eq!(device.compact(0), Ok(4));

@@ -1,4 +1,5 @@
-//! Document 01's cases and its script, as calls and what they answer.
+//! Document 01's cases and its script, as calls and what they answer since
+//! request b of document 02.
 
 use crate::ops::{Collected, Flushed, Lookup, Refusal};
 use crate::script::{Answer, Line, Listed};
@@ -65,8 +66,8 @@ pub const LEARNING: &[Learning] = &[
         bound: 1,
         first: 64,
         batch: &[0, 1, 4, 5],
-        predictions: &[65, 66, 66, 66],
-        records: &[(0, 0, 5, 3, 65)],
+        predictions: &[64, 65, 66, 67],
+        records: &[(0, 0, 5, 207, 64)],
     },
     Learning {
         name: "the same with bound 0",
@@ -75,6 +76,31 @@ pub const LEARNING: &[Learning] = &[
         batch: &[0, 1, 4, 5],
         predictions: &[64, 65, 66, 67],
         records: &[(0, 0, 1, 2, 64), (0, 4, 1, 2, 62)],
+    },
+    // Further cases of the choice among the longest approximate runs.
+    Learning {
+        name: "the fewest wrong, though a smaller slope suits",
+        bound: 1,
+        first: 64,
+        batch: &[1, 2, 6],
+        predictions: &[65, 65, 66],
+        records: &[(0, 1, 5, 87, 64)],
+    },
+    Learning {
+        name: "of two intercepts with as many wrong the smaller",
+        bound: 1,
+        first: 64,
+        batch: &[91, 181, 190, 199],
+        predictions: &[64, 65, 65, 66],
+        records: &[(0, 91, 108, 9, 62)],
+    },
+    Learning {
+        name: "no prediction outside the flush, though fewer were wrong",
+        bound: 3,
+        first: 64,
+        batch: &[1, 2, 4, 12],
+        predictions: &[66, 66, 66, 67],
+        records: &[(0, 1, 11, 45, 65)],
     },
     // The document names no bound here.
     TWO_GROUPS,
@@ -211,7 +237,7 @@ fn script() -> Case {
             flush(&[72, 73, 80], 256, &[0, 1, 2]),
             found(50, 50, 50, 2),
             found(78, 193, 193, 2),
-            found(82, 194, 193, 2),
+            found(82, 194, 194, 2),
             (Line::Lookup(100), Answer::Lookup(not_written)),
             ascending(32, 90, 320),
             found(78, 366, 366, 1),

@@ -1,5 +1,6 @@
 //! Learning a batch.
 
+use std::cmp::Reverse;
 use std::collections::{BTreeMap, BTreeSet};
 use std::ops::RangeInclusive;
 
@@ -101,32 +102,38 @@ fn accurate_run(rest: &[Placed]) -> Run {
     }
 }
 
-/// 'If g is at least 1': the longest approximate run over all slopes; 'among
-/// approximate runs of that length: smallest a, then smallest I'.
+/// 'If g is at least 1': 'among the longest approximate runs the one with fewest
+/// wrong predictions is now taken, ties as before', which is 'smallest a, then
+/// smallest I'.
 fn approximate_run(bound: u32, written: &RangeInclusive<i64>, rest: &[Placed]) -> Option<Run> {
     if bound == 0 {
         return None;
     }
-    let mut best: Option<(usize, u16, i64)> = None;
-    for slope in 0..=256 {
-        let (length, smallest) = longest(slope, bound, written, rest);
-        if best.is_none_or(|(longest, _, _)| length > longest) {
-            best = Some((length, slope, smallest));
-        }
-    }
-    best.map(|(length, slope, smallest)| {
+    let runs = (0..=256).flat_map(|slope| {
+        let (length, suitable) = longest(slope, bound, written, rest);
+        suitable.map(move |number| {
+            let wrong = wrong_predictions(slope, number, &rest[..length]);
+            (Reverse(length), wrong, slope, number)
+        })
+    });
+    runs.min().map(|(Reverse(length), _, slope, number)| {
         let owns: BTreeSet<u8> = rest[..length].iter().map(|place| place.offset).collect();
         Run {
             length,
-            record: Record::approximate(slope, intercept(smallest), owns),
+            record: Record::approximate(slope, intercept(number), owns),
         }
     })
 }
 
-/// The longest run of one slope, and the smallest intercept of that run. The
-/// intercepts that suit a run are those that suit each of its members, so a
-/// longer run has fewer; the run ends before they are none.
-fn longest(slope: u16, bound: u32, written: &RangeInclusive<i64>, rest: &[Placed]) -> (usize, i64) {
+/// The longest run of one slope, and the intercepts that suit it. The intercepts
+/// that suit a run are those that suit each of its members, so a longer run has
+/// fewer; the run ends before they are none.
+fn longest(
+    slope: u16,
+    bound: u32,
+    written: &RangeInclusive<i64>,
+    rest: &[Placed],
+) -> (usize, RangeInclusive<i64>) {
     let mut suitable = suitable_intercepts(slope, bound, written, rest[0]);
     let mut length = 1;
     while let Some(&next) = rest.get(length) {
@@ -137,7 +144,15 @@ fn longest(slope: u16, bound: u32, written: &RangeInclusive<i64>, rest: &[Placed
         suitable = wider;
         length += 1;
     }
-    (length, *suitable.start())
+    (length, suitable)
+}
+
+/// How many members of a run are predicted on another page than their own.
+fn wrong_predictions(slope: u16, intercept: i64, run: &[Placed]) -> usize {
+    let rise = |offset| Kind::Approximate { slope }.rise(offset);
+    run.iter()
+        .filter(|member| intercept + rise(member.offset) != member.page)
+        .count()
 }
 
 /// The intercepts for which one member's prediction is 'within g of its page

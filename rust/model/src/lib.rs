@@ -1,8 +1,8 @@
 //! A model of Hedjosur, the gateway's learned page table.
 //!
-//! The model says what document 01 says, and request a of document 02, in vectors
-//! and sets instead of bytes, plainly and slowly. Its modules follow document 01's
-//! sections:
+//! The model says what document 01 says, and requests a and b of document 02, in
+//! vectors and sets instead of bytes, plainly and slowly. Its modules follow
+//! document 01's sections:
 //!
 //! - [`device`]: the limits, groups and offsets, and [`state`]: what a state holds
 //! - [`spare`]: the spare area, a layer of its own

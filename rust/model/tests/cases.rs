@@ -89,7 +89,7 @@ fn the_script_is_the_case() {
         Answer::Lookup(lookup) => Some(lookup.reads()),
         _ => None,
     });
-    assert_eq!(reads.collect::<Vec<_>>(), [1, 1, 2, 0, 1]);
+    assert_eq!(reads.collect::<Vec<_>>(), [1, 1, 1, 0, 1]);
 }
 
 #[test]

@@ -2,6 +2,7 @@
 //! sorted batches.
 
 use std::collections::{BTreeMap, BTreeSet};
+use std::ops::Range;
 
 use hedjosur_model::device::{group_of, offset_of, Device};
 use hedjosur_model::learn::{learn, Learned};
@@ -143,6 +144,17 @@ fn placed_batch(random: &mut Random) -> (Device, u32, Vec<u32>) {
     (device, block, sorted)
 }
 
+/// A device of one whole group, and four logical pages anywhere in it.
+fn four_pages(random: &mut Random) -> (Device, u32, Vec<u32>) {
+    let device = full_device(9, 64, random.pick(&[1, 1, 2, 4]));
+    let block = random.below(device.blocks);
+    let mut pages: Vec<u32> = (0..device.logical_pages).collect();
+    random.shuffle(&mut pages);
+    pages.truncate(4);
+    pages.sort();
+    (device, block, pages)
+}
+
 /// Demand 2: 'reading those records with the spare area gives back exactly the
 /// batch's logical pages, each with its page'.
 #[test]
@@ -178,17 +190,41 @@ fn records_and_spare_entries_give_back_the_batch() {
     });
 }
 
-/// The greedy rule by trial: every slope and every intercept that could matter,
-/// for ever shorter runs.
+/// How many predictions of an approximate run are wrong, its a and its I: among
+/// the longest runs the least is taken.
+type Fit = (usize, u16, i32);
+
+/// The approximate runs of these offsets with their pages, by trial: every slope
+/// with every intercept that could matter.
+fn fits(bound: u32, written: &Range<i64>, run: &[(u8, i64)]) -> Vec<Fit> {
+    let mut fits = Vec::new();
+    for slope in 0..=256 {
+        for intercept in written.start - 256..written.end {
+            let rise = |offset: u8| (slope * i64::from(offset) + 255).div_euclid(256);
+            let predicted = |offset| intercept + rise(offset);
+            let suits = run.iter().all(|&(offset, on)| {
+                let within = (predicted(offset) - on).abs() <= i64::from(bound);
+                within && written.contains(&predicted(offset))
+            });
+            if suits {
+                let wrong = run.iter().filter(|&&(offset, on)| predicted(offset) != on);
+                fits.push((wrong.count(), slope as u16, intercept as i32));
+            }
+        }
+    }
+    fits
+}
+
+/// The greedy rule by trial, for ever shorter runs.
 fn learned_by_trial(bound: u32, first: u32, sorted: &[u32]) -> Vec<(usize, u8, u8, u16, i32)> {
-    let (first, after) = (i64::from(first), i64::from(first) + sorted.len() as i64);
+    let written = i64::from(first)..i64::from(first) + sorted.len() as i64;
     let mut learned = Vec::new();
     let mut at = 0;
     while at < sorted.len() {
         let group = group_of(sorted[at]);
         let rest: Vec<(u8, i64)> = sorted[at..]
             .iter()
-            .zip(first + at as i64..)
+            .zip(written.start + at as i64..)
             .filter(|(&page, _)| group_of(page) == group)
             .map(|(&page, on)| (offset_of(page), on))
             .collect();
@@ -198,19 +234,12 @@ fn learned_by_trial(bound: u32, first: u32, sorted: &[u32]) -> Vec<(usize, u8, u
             .rev()
             .find(|&length| (2..length).all(|i| rest[i].0 - rest[i - 1].0 == rest[1].0 - rest[0].0))
             .expect("one page alone is a run");
-        let suits = |run: &[(u8, i64)], slope: i64, intercept: i64| {
-            run.iter().all(|&(offset, on)| {
-                let predicted = intercept + (slope * i64::from(offset) + 255).div_euclid(256);
-                (predicted - on).abs() <= i64::from(bound) && (first..after).contains(&predicted)
-            })
-        };
-        let longer = (accurate + 1..=rest.len()).rev().filter(|_| bound >= 1);
-        let approximate = longer
-            .flat_map(|length| (0..=256).map(move |slope| (length, slope)))
-            .find_map(|(length, slope)| {
-                let intercept = (first - 256..after).find(|&i| suits(&rest[..length], slope, i))?;
-                Some((length, 2 * slope as u16 + 1, intercept as i32))
-            });
+        let mut longer = (accurate + 1..=rest.len()).rev().filter(|_| bound >= 1);
+        let approximate = longer.find_map(|length| {
+            let fits = fits(bound, &written, &rest[..length]);
+            let (_, slope, intercept) = fits.into_iter().min()?;
+            Some((length, 2 * slope + 1, intercept))
+        });
         let (length, word, intercept) = approximate.unwrap_or_else(|| {
             let stride = rest.get(1).map_or(0, |second| second.0 - start);
             let rise = if stride == 0 {
@@ -252,8 +281,84 @@ fn learning_is_the_greedy_rule() {
     assert!(approximate > 0, "no approximate record was learned");
 }
 
-/// The offsets of a group are too few to tell the two apart, so the smallest
-/// slope is never 256.
+/// How often the choice among the longest approximate runs was a real one.
+#[derive(Default)]
+struct Choices {
+    smaller_slope_suits: usize,
+    intercepts_tie: usize,
+}
+
+/// Each approximate record's run goes on as far as any does, and none as long has
+/// fewer wrong predictions. In half of the rounds the batch is four pages anywhere
+/// in one group: intercepts hardly ever tie in the others.
+#[test]
+fn the_fewest_predictions_are_wrong() {
+    let mut choices = Choices::default();
+    rounds(4000, &mut choices, |random, log, choices| {
+        let (device, block, sorted) = match random.once_in(2) {
+            true => placed_batch(random),
+            false => four_pages(random),
+        };
+        let (bound, first) = (device.bound, device.pages_of_block(block).start);
+        log.note((bound, first, &sorted));
+        let written = i64::from(first)..i64::from(first) + sorted.len() as i64;
+        let mut at = 0;
+        for Learned { group, record } in learn(bound, first, &sorted) {
+            let placed = |(&page, on): (&u32, i64)| (offset_of(page), on);
+            let rest = sorted[at..].iter().zip(written.start + at as i64..);
+            let length = record.members().len();
+            at += length;
+            if !record.is_approximate() {
+                continue;
+            }
+            let run: Vec<(u8, i64)> = rest.clone().take(length).map(placed).collect();
+            let fits_of_run = fits(bound, &written, &run);
+            let &(wrong, slope, intercept) = fits_of_run.iter().min().expect("a fit");
+            assert_eq!((record.word, record.intercept), (2 * slope + 1, intercept));
+            if sorted.get(at).is_some_and(|&next| group_of(next) == group) {
+                let longer: Vec<(u8, i64)> = rest.take(length + 1).map(placed).collect();
+                assert_eq!(fits(bound, &written, &longer), []);
+            }
+            let smaller_slope = fits_of_run.iter().any(|fit| fit.1 < slope);
+            let tied = |fit: &&Fit| (fit.0, fit.1) == (wrong, slope);
+            choices.smaller_slope_suits += usize::from(smaller_slope);
+            choices.intercepts_tie += usize::from(fits_of_run.iter().filter(tied).count() > 1);
+        }
+    });
+    assert!(choices.smaller_slope_suits > 0, "no smaller slope suited");
+    assert!(choices.intercepts_tie > 0, "no two intercepts tied");
+}
+
+/// Of document 01's case and of the further cases of learning that show the choice
+/// among the longest approximate runs: the run taken, and the one passed over.
+#[test]
+fn runs_taken_and_passed_over() {
+    let fits = |bound, written: Range<i64>, offsets: &[u8]| {
+        let run: Vec<(u8, i64)> = offsets.iter().copied().zip(64..).collect();
+        fits(bound, &written, &run)
+    };
+    let smallest_slope = |fits: &[Fit]| fits.iter().copied().min_by_key(|fit| (fit.1, fit.2));
+
+    let four = fits(1, 64..68, &[0, 1, 4, 5]);
+    assert_eq!(four.iter().min(), Some(&(0, 103, 64)));
+    assert_eq!(smallest_slope(&four), Some((3, 1, 65)));
+
+    let three = fits(1, 64..67, &[1, 2, 6]);
+    assert_eq!(three.iter().min(), Some(&(1, 43, 64)));
+    assert_eq!(smallest_slope(&three), Some((2, 0, 65)));
+
+    let mut tied = fits(1, 64..68, &[91, 181, 190, 199]);
+    tied.sort();
+    assert_eq!(tied[..2], [(2, 4, 62), (2, 4, 63)]);
+
+    let outside = fits(3, 64..71, &[1, 2, 4, 12]);
+    assert_eq!(outside.iter().min(), Some(&(1, 129, 63)));
+    let inside = fits(3, 64..68, &[1, 2, 4, 12]);
+    assert_eq!(inside.iter().min(), Some(&(2, 22, 65)));
+}
+
+/// The offsets of a group are too few to tell the two apart, so the slope taken,
+/// the smallest of those with as many wrong, is never 256.
 #[test]
 fn slopes_255_and_256_predict_alike() {
     let [less, more] = [255, 256].map(|slope| Kind::Approximate { slope });

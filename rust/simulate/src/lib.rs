@@ -6,8 +6,9 @@
 //! - [`driver`]: a buffer before the chip; flushes, collections and lookups
 //! - [`counts`] and [`memory`]: what is counted, what the table takes
 //! - [`run()`]: one load on one device; [`options`]: which ones
-//! - [`report`] and [`plot`]: tables, comma-separated values, a drawing; [`page`]: a
-//!   page that shows them
+//! - [`report`] and [`plot`]: tables, comma-separated values, a drawing ([`chart`]);
+//!   [`page`]: a page that shows them
+//! - [`second_reads`]: how often lookups read twice, by two builds of the library
 //!
 //! Every page that is read is compared with what was written last. Everything but
 //! times depends on the options alone.
@@ -15,6 +16,7 @@
 #![forbid(unsafe_code)]
 #![warn(missing_docs)]
 
+pub mod chart;
 pub mod counts;
 pub mod driver;
 pub mod load;
@@ -25,5 +27,6 @@ pub mod page;
 pub mod plot;
 pub mod report;
 pub mod run;
+pub mod second_reads;
 
 pub use run::{run, Case, Outcome};

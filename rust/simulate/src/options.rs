@@ -14,7 +14,7 @@ use crate::{run, Case, Outcome};
 pub const HELP: &str = "\
 Replays loads through the table on a flash chip in memory and says what they cost.
 
-  --load NAME,..       sequential, strided, skewed, random, mixed, stairwell, hourly
+  --load NAME,..       sequential, strided, clustered, skewed, random, mixed, stairwell, hourly
   --trace FILE         a trace: lines W FIRST COUNT, R FIRST COUNT, F (sync), D M B N, or one
                        logical page a line; decompressed by xz where its name ends so
   --device MxB[xN],..  blocks, pages of a block, logical pages (default 129x256, a trace's own

@@ -1,7 +1,8 @@
 //! A page of documentation whose tables are what commands print.
 //!
 //! Each command is a block of its own, marked `sh`, that runs this program; the
-//! next block, marked `text`, is what it prints.
+//! next block, marked `text`, is what it prints. Other text that is made stands
+//! between two marks.
 
 use std::ops::Range;
 
@@ -53,6 +54,15 @@ pub fn commands(page: &str) -> Vec<Shown> {
     shown
 }
 
+/// Where the text between a name's two marks stands, in bytes: the lines `<!-- name
+/// -->` and `<!-- /name -->`.
+pub fn between(page: &str, name: &str) -> Option<Range<usize>> {
+    let start = find(page, 0, &format!("<!-- {name} -->\n"))?;
+    let close = format!("<!-- /{name} -->\n");
+    let end = find(page, start, &close)?;
+    Some(start..end - close.len())
+}
+
 /// Where the first `words` from a place on end.
 fn find(page: &str, from: usize, words: &str) -> Option<usize> {
     page[from..].find(words).map(|at| from + at + words.len())
@@ -72,5 +82,13 @@ mod tests {
         assert_eq!(shown[0].arguments, ["--load", "random", "--exact"]);
         assert_eq!(&page[shown[0].text.clone()], "a\nb\n");
         assert!(shown[0].is_exact() && !shown[0].is_traced());
+    }
+
+    #[test]
+    fn what_stands_between_marks_is_found() {
+        let page = "words\n<!-- a -->\nb\nc\n<!-- /a -->\n<!-- d -->\n";
+        let place = between(page, "a").expect("both marks");
+        assert_eq!(&page[place], "b\nc\n");
+        assert_eq!((between(page, "d"), between(page, "e")), (None, None));
     }
 }

@@ -395,7 +395,7 @@ fn shown(outcomes: &[Outcome], columns: &[&Column]) -> String {
 }
 
 /// Rows of cells, the first column to the left and the others to the right.
-fn aligned(rows: &[Vec<String>]) -> String {
+pub fn aligned(rows: &[Vec<String>]) -> String {
     let columns = rows.first().map_or(0, Vec::len);
     let width = |column: usize| rows.iter().map(|row| row[column].len()).max().unwrap_or(0);
     let widths: Vec<usize> = (0..columns).map(width).collect();

@@ -162,7 +162,7 @@ mod tests {
     }
 
     /// Document 01's script as a trace: after it and a compaction four records are
-    /// left; before, lookup 50 looks at two levels, and 82 needs two reads.
+    /// left; before, lookup 50 looks at two levels, and 82 needs one read.
     #[test]
     fn the_script_of_document_01() {
         let text =
@@ -174,7 +174,7 @@ mod tests {
         assert_eq!((outcome.writing.flushes, outcome.writing.flushed), (6, 201));
         assert_eq!(
             (outcome.lookups.found, outcome.lookups.second_reads),
-            (3, 1)
+            (3, 0)
         );
         assert_eq!(
             (

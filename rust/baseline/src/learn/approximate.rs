@@ -1,12 +1,14 @@
-//! The longest approximate run: several slopes are tried at once, and only those
-//! that can beat the longest so far.
+//! The longest approximate run with the fewest wrong predictions: several slopes are
+//! tried at once, and only those that can be as long as the longest so far. The right
+//! predictions are counted once the longest are known, for the slopes that reach as
+//! far.
 
 use std::ops::RangeInclusive;
 
 use hedjosur_model::device::offset_of;
 
 /// Slopes are fractions of 256. Slope 256 predicts as 255 does at each offset of
-/// a group, so it is never the smallest of a longest run.
+/// a group, so it is never the smallest with as many wrong predictions.
 const SLOPES: i32 = 256;
 
 /// How far ahead of the longest run so far a first guess looks.
@@ -15,8 +17,13 @@ const AHEAD: usize = 12;
 /// How many slopes are tried at once.
 const LANES: usize = 16;
 
-/// A slope, how many logical pages it takes, and the smallest intercept, counted
-/// from place 0.
+/// How many times so many slopes are tried for all.
+const BLOCKS: usize = SLOPES as usize / LANES;
+
+/// The largest error bound.
+const MAX_BOUND: usize = 15;
+
+/// A slope, how many logical pages it takes, and its intercept, counted from place 0.
 #[derive(Clone, Copy, Debug)]
 pub(super) struct Fit {
     pub slope: u32,
@@ -61,52 +68,205 @@ impl Leads {
     }
 }
 
+/// A byte for each of the slopes.
+type Bytes = [u8; LANES];
+
+/// Some slopes of longest runs, and of each the intercepts that suit and may be right
+/// for a page: so many from the first on, at most one more than the bound. Behind the
+/// last slope the counts are 0.
+#[derive(Clone, Copy, Debug)]
+pub(super) struct Choices {
+    slope: [u16; LANES],
+    /// The smallest intercept that suits: it is taken where none is right.
+    lowest: [i16; LANES],
+    first: [i16; LANES],
+    count: Bytes,
+}
+
+impl Choices {
+    /// Of no slope.
+    const NONE: Choices = Choices {
+        slope: [0; LANES],
+        lowest: [0; LANES],
+        first: [0; LANES],
+        count: [0; LANES],
+    };
+
+    /// Puts in a slope with its leads.
+    #[inline(always)]
+    fn put(&mut self, at: usize, slope: usize, least: i16, most: i16, bound: i16) {
+        let lowest = -bound - least;
+        let first = lowest.max(-most);
+        let last = (bound - most).min(-least);
+        self.slope[at] = slope as u16;
+        self.lowest[at] = lowest;
+        self.first[at] = first;
+        self.count[at] = (last - first + 1) as u8;
+    }
+}
+
+/// The most right predictions of some slopes, and where the first intercept with as
+/// many stands among the slope's choices.
+struct Right {
+    most: Bytes,
+    first: Bytes,
+}
+
+/// The choices of all slopes of longest runs.
+pub(super) type AllChoices = [Choices; BLOCKS];
+
+/// No slope has a choice.
+pub(super) const NO_CHOICES: AllChoices = [Choices::NONE; BLOCKS];
+
 impl Ahead<'_> {
-    /// The longest approximate run, if it is longer than `length`: of the smallest
-    /// slope and the smallest intercept.
-    pub fn longer_fit(&self, length: usize) -> Option<Fit> {
-        let mut reached = self.place + length;
-        let mut slopes = self.slopes_to(reached);
+    /// The longest approximate run, if it is longer than `length`: of those with the
+    /// fewest wrong predictions the one of the smallest slope, then of the smallest
+    /// intercept.
+    pub fn longer_fit(&self, length: usize, all: &mut AllChoices) -> Option<Fit> {
+        // The last place that a run has to take.
+        let mut goal = self.place + length;
+        let mut slopes = self.slopes_to(goal);
         if slopes.is_empty() {
             return None;
         }
         let mut guess = None;
         // Where even slope 0 gets half of the way, the first slopes are as good a guess.
         if self.end - self.place > 4 * self.bound as usize + 2 {
-            let ahead = self.slopes_to((reached + AHEAD).min(self.end - 1));
+            let ahead = self.slopes_to((goal + AHEAD).min(self.end - 1));
             let middle = (ahead.start() + ahead.end()) / 2;
             let slope = first_lane(middle.clamp(*slopes.start(), *slopes.end()));
-            guess = self.reach(slope, reached).map(|found| (slope, found));
+            guess = self.reach(slope, goal).map(|found| (slope, found));
         }
         // What is reached leaves fewer slopes to be tried.
-        if let Some((_, (end, _))) = guess.filter(|(_, (end, _))| *end > reached + 1) {
-            reached = end - 1;
-            slopes = self.slopes_to(reached);
+        if let Some((_, (end, _))) = guess.filter(|(_, (end, _))| *end > goal + 1) {
+            goal = end - 1;
+            slopes = self.slopes_to(goal);
         }
-        let mut best = None;
+        let mut longest = [(0, Leads::NONE); BLOCKS];
+        let mut count = 0;
         let mut slope = first_lane(*slopes.start());
         while slope <= *slopes.end() {
             let found = match guess {
                 Some((guessed, found)) if guessed == slope => Some(found),
-                _ => self.reach(slope, reached),
+                _ => self.reach(slope, goal),
             };
-            if let Some((end, leads)) = found.filter(|&(end, _)| end > reached) {
-                reached = end;
-                best = Some((slope, leads));
-                if reached == self.end {
-                    break;
+            if let Some((end, leads)) = found.filter(|&(end, _)| end > goal) {
+                if end > goal + 1 {
+                    goal = end - 1;
+                    slopes = self.slopes_to(goal);
+                    count = 0;
                 }
-                slopes = self.slopes_to(reached);
+                longest[count] = (slope, leads);
+                count += 1;
             }
             slope = (slope + LANES).max(first_lane(*slopes.start()));
         }
-        let (slope, leads) = best?;
-        let lane = leads.suited(self.bound).trailing_zeros() as usize % LANES;
-        Some(Fit {
-            slope: (slope + lane) as u32,
-            length: reached - self.place,
-            intercept: i32::from(-self.bound - leads.least[lane]),
-        })
+        self.best_fit(&longest[..count], goal + 1, all)
+    }
+
+    /// Of the runs up to `end` of some slopes with their leads there, ascending: the
+    /// first with the most right predictions.
+    #[inline]
+    fn best_fit(
+        &self,
+        longest: &[(usize, Leads)],
+        end: usize,
+        all: &mut AllChoices,
+    ) -> Option<Fit> {
+        let mut count = 0;
+        for (slope, leads) in longest {
+            let mut suited = leads.suited(self.bound);
+            while suited != 0 {
+                let lane = suited.trailing_zeros() as usize % LANES;
+                suited &= suited - 1;
+                let choices = &mut all[count / LANES];
+                if count % LANES == 0 {
+                    choices.count = [0; LANES];
+                }
+                let (least, most) = (leads.least[lane], leads.most[lane]);
+                choices.put(count % LANES, slope + lane, least, most, self.bound);
+                count += 1;
+            }
+        }
+        // A run that needs an approximate record has at most 255 pages: a byte counts them.
+        let length = end - self.place;
+        let fit = |choices: &Choices, lane: usize, right: u8, choice: u8| Fit {
+            slope: u32::from(choices.slope[lane]),
+            length,
+            intercept: i32::from(match right {
+                0 => choices.lowest[lane],
+                _ => choices.first[lane] + i16::from(choice),
+            }),
+        };
+        if count == 1 && all[0].count[0] == 1 {
+            return Some(fit(&all[0], 0, 1, 0));
+        }
+        let mut best: Option<(u8, Fit)> = None;
+        for choices in &all[..count.div_ceil(LANES)] {
+            let right = self.most_right(end, choices);
+            let top = right.most.into_iter().fold(0, u8::max);
+            if best.is_some_and(|(right, _)| top <= right) {
+                continue;
+            }
+            let is_top = |bits, lane: usize| {
+                let is_top = right.most[lane] == top && choices.count[lane] > 0;
+                bits | u32::from(is_top) << lane
+            };
+            let lane = (0..LANES).fold(0, is_top).trailing_zeros() as usize % LANES;
+            best = Some((top, fit(choices, lane, top, right.first[lane])));
+            if usize::from(top) == length {
+                break;
+            }
+        }
+        best.map(|(_, fit)| fit)
+    }
+
+    /// The most right predictions of some slopes.
+    #[inline]
+    fn most_right(&self, end: usize, choices: &Choices) -> Right {
+        match choices.count.into_iter().fold(0, u8::max) {
+            ..=1 => self.count_right::<1>(end, choices),
+            2 => self.count_right::<2>(end, choices),
+            3 => self.count_right::<3>(end, choices),
+            4 => self.count_right::<4>(end, choices),
+            5..=6 => self.count_right::<6>(end, choices),
+            7..=8 => self.count_right::<8>(end, choices),
+            9..=12 => self.count_right::<12>(end, choices),
+            _ => self.count_right::<{ MAX_BOUND + 1 }>(end, choices),
+        }
+    }
+
+    /// The most right predictions of slopes that have at most `N` choices.
+    #[inline(never)]
+    fn count_right<const N: usize>(&self, end: usize, choices: &Choices) -> Right {
+        // Above a product's low byte the rise and the first intercept add up.
+        let above: [u16; LANES] = choices.first.map(|first| 255 | (first as u16) << 8);
+        let mut places = [self.place as u8; LANES];
+        let mut counts = [[0u8; LANES]; N];
+        for &page in &self.written[self.place..end] {
+            let offset = u16::from(offset_of(page));
+            let right: Bytes = std::array::from_fn(|lane| {
+                let sum = (choices.slope[lane] * offset).wrapping_add(above[lane]);
+                places[lane].wrapping_sub((sum >> 8) as u8)
+            });
+            places = places.map(|place| place.wrapping_add(1));
+            for (choice, counts) in (0..).zip(&mut counts) {
+                *counts =
+                    std::array::from_fn(|lane| counts[lane] + u8::from(right[lane] == choice));
+            }
+        }
+        let mut most = [0; LANES];
+        let mut first = [0; LANES];
+        for (choice, counts) in (0..).zip(&counts) {
+            let is_choice = choices.count.map(|count| mask(choice < count));
+            let count: Bytes = std::array::from_fn(|lane| counts[lane] & is_choice[lane]);
+            let is_more: Bytes = std::array::from_fn(|lane| mask(count[lane] > most[lane]));
+            first = std::array::from_fn(|lane| {
+                (is_more[lane] & choice) | (!is_more[lane] & first[lane])
+            });
+            most = std::array::from_fn(|lane| most[lane].max(count[lane]));
+        }
+        Right { most, first }
     }
 
     /// The slopes for which one intercept may suit the first page and a later one.
@@ -139,6 +299,15 @@ impl Ahead<'_> {
         let mut leads = self.lead(Leads::NONE, slope, self.place);
         if self.lead(leads, slope, goal).suited(self.bound) == 0 {
             return None;
+        }
+        // A run of all pages is the longest: its lines need no look in between.
+        if goal + 1 == self.end {
+            let mut place = self.place;
+            while place < goal {
+                place = self.line_end(place + 1);
+                leads = self.lead(leads, slope, place);
+            }
+            return (leads.suited(self.bound) != 0).then_some((self.end, leads));
         }
         // From line's end to line's end; the last line is halved.
         let (mut reached, mut missed) = (self.place + 1, self.end);
@@ -178,6 +347,12 @@ impl Ahead<'_> {
     fn line_end(&self, place: usize) -> usize {
         usize::from(self.line_ends[place % 256]).min(self.end - 1)
     }
+}
+
+/// All bits or none.
+#[inline(always)]
+fn mask(is_set: bool) -> u8 {
+    u8::from(is_set).wrapping_neg()
 }
 
 /// The first of the slopes that are tried together with this one.

@@ -9,7 +9,7 @@ use hedjosur_model::device::{group_of, offset_of};
 
 use crate::neighbours::holding;
 use crate::record::Record;
-use approximate::{Ahead, Fit};
+use approximate::{Ahead, AllChoices, Fit, NO_CHOICES};
 
 /// From here on the pages of an accurate run are compared several at once.
 const SHORT: usize = 6;
@@ -32,8 +32,17 @@ pub struct Learner<'a> {
     written: &'a [u32],
     first: u32,
     bound: u32,
-    /// See [`line_ends`]; made when it is first needed.
-    line_ends: Option<[u8; 256]>,
+    /// Made when it is first needed.
+    fitting: Option<Fitting>,
+}
+
+/// What the approximate runs of a batch share.
+#[derive(Clone, Debug)]
+struct Fitting {
+    /// See [`line_ends`].
+    line_ends: [u8; 256],
+    /// Room that each run uses again.
+    choices: AllChoices,
 }
 
 impl<'a> Learner<'a> {
@@ -44,7 +53,7 @@ impl<'a> Learner<'a> {
             written,
             first,
             bound,
-            line_ends: None,
+            fitting: None,
         }
     }
 
@@ -98,10 +107,12 @@ impl<'a> Learner<'a> {
     }
 
     /// The longest approximate run of these places, if it is longer than `length`.
+    #[inline(never)]
     fn longer_fit(&mut self, places: Range<usize>, length: usize) -> Option<Fit> {
-        let line_ends = self
-            .line_ends
-            .get_or_insert_with(|| line_ends(self.written));
+        let Fitting { line_ends, choices } = self.fitting.get_or_insert_with(|| Fitting {
+            line_ends: line_ends(self.written),
+            choices: NO_CHOICES,
+        });
         let ahead = Ahead {
             written: self.written,
             line_ends,
@@ -109,7 +120,7 @@ impl<'a> Learner<'a> {
             end: places.end,
             bound: self.bound as i16,
         };
-        ahead.longer_fit(length)
+        ahead.longer_fit(length, choices)
     }
 }
 
@@ -176,4 +187,62 @@ fn line_ends(written: &[u32]) -> [u8; 256] {
         ends[at % 256] = end;
     }
     ends
+}
+
+#[cfg(test)]
+mod tests {
+    use std::collections::BTreeSet;
+
+    use hedjosur_layout::encode_record;
+    use hedjosur_model::learn;
+    use hedjosur_model::testing::{rounds, Random};
+
+    /// Ascending logical pages, at most 256: anywhere, in clusters, or mostly with one
+    /// stride.
+    fn ascending(random: &mut Random) -> Vec<u32> {
+        let length = random.pick(&[4, 16, 64, 256]);
+        let length = random.between(1, length);
+        let first = random.below(512);
+        if random.once_in(3) {
+            let below = length * random.between(1, 12);
+            let pages: BTreeSet<u32> = (0..length).map(|_| first + random.below(below)).collect();
+            return pages.into_iter().collect();
+        }
+        let (cluster, gap) = (random.between(1, 16), random.between(1, 9));
+        let stride = random.between(1, 3);
+        (0..length)
+            .scan(first, |page, _| {
+                let at = *page;
+                *page += match random.once_in(cluster) {
+                    true => random.between(1, gap),
+                    false => stride,
+                };
+                Some(at)
+            })
+            .collect()
+    }
+
+    /// Each batch is learned with every error bound.
+    #[test]
+    fn learning_is_the_models() {
+        let mut approximate = 0;
+        rounds(300, &mut approximate, |random, log, approximate| {
+            let written = ascending(random);
+            let first = 256 * random.below(4096);
+            log.note((first, &written));
+            for bound in 0..=15 {
+                let learned = learn::learn(bound, first, &written);
+                let records: Vec<u8> = learned
+                    .iter()
+                    .flat_map(|one| encode_record(&one.record))
+                    .collect();
+                let mut out = vec![0; 8 * written.len()];
+                let count = super::learn(&written, first, bound, &mut out);
+                assert_eq!(out[..8 * count], records, "bound {bound}");
+                let is_approximate = learned.iter().filter(|one| one.record.is_approximate());
+                *approximate += is_approximate.count();
+            }
+        });
+        assert!(approximate > 0, "no approximate record was learned");
+    }
 }

@@ -14,6 +14,9 @@ pub enum Pattern {
     Sequential,
     /// Every so many-th page, from 0 on; in the next round from 1 on.
     Strided,
+    /// Runs of 1 to 12 neighbours with 1 to 6 pages left out between them, upwards,
+    /// over and over.
+    Clustered,
     /// Four of five writes go to the first fifth of the pages; there, and so on
     /// inward, the same.
     Skewed,
@@ -50,9 +53,10 @@ pub struct Shape {
 
 impl Pattern {
     /// All patterns.
-    pub const ALL: [Pattern; 7] = [
+    pub const ALL: [Pattern; 8] = [
         Pattern::Sequential,
         Pattern::Strided,
+        Pattern::Clustered,
         Pattern::Skewed,
         Pattern::Random,
         Pattern::Mixed,
@@ -65,6 +69,7 @@ impl Pattern {
         match self {
             Pattern::Sequential => "sequential",
             Pattern::Strided => "strided",
+            Pattern::Clustered => "clustered",
             Pattern::Skewed => "skewed",
             Pattern::Random => "random",
             Pattern::Mixed => "mixed",
@@ -108,7 +113,7 @@ struct Steps {
     made: u64,
     /// Hundredths of reads that are due.
     owed: u32,
-    /// A mixed load's run.
+    /// A clustered or mixed load's run.
     run: Run,
     /// The valves that have yet to report this hour.
     order: Vec<u32>,
@@ -141,6 +146,7 @@ impl Steps {
         match self.pattern {
             Pattern::Sequential => (self.made % u64::from(pages)) as u32,
             Pattern::Strided => strided(self.made, pages, self.shape.stride),
+            Pattern::Clustered => self.clustered(),
             Pattern::Skewed => self.skewed(),
             Pattern::Random => self.random.below(pages),
             Pattern::Mixed => self.mixed(),
@@ -153,6 +159,18 @@ impl Steps {
                 hour * self.shape.valves + valve
             }
         }
+    }
+
+    fn clustered(&mut self) -> u32 {
+        if self.run.left == 0 {
+            let next = self.run.next + self.random.between(1, 6);
+            self.run = Run {
+                next: next % self.shape.pages,
+                stride: 1,
+                left: self.random.between(1, 12),
+            };
+        }
+        self.follow()
     }
 
     fn skewed(&mut self) -> u32 {
@@ -184,6 +202,11 @@ impl Steps {
                 },
             };
         }
+        self.follow()
+    }
+
+    /// The next page of the run.
+    fn follow(&mut self) -> u32 {
         let page = self.run.next;
         self.run.next = (page + self.run.stride) % self.shape.pages;
         self.run.left -= 1;
@@ -269,6 +292,17 @@ mod tests {
         );
         round.sort();
         assert_eq!(round, Vec::from_iter(0..100));
+    }
+
+    #[test]
+    fn a_clustered_load_goes_up_by_runs_and_gaps() {
+        let pages = writes(Pattern::Clustered);
+        let steps = pages.windows(2).map(|two| (two[1] + 100 - two[0]) % 100);
+        let steps = Vec::from_iter(steps);
+        assert!(steps.iter().all(|step| (1..=7).contains(step)));
+        let runs = steps.split(|step| *step > 1);
+        assert!(runs.clone().all(|run| run.len() < 12));
+        assert!((30..=70).contains(&runs.count()));
     }
 
     #[test]

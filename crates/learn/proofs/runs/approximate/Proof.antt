@@ -1,3 +1,4 @@
+-- `approximate` meets its contract.
 use Rattle.learn.proofs.Choosing.{fit-record}
 use mathlib.Core.Path.{refl, _∙_}
 use mir.Syntax.{w32}
@@ -11,5 +12,5 @@ returns c = (fit-record _ _ _ _ (toZ-ofZ {w = w32} (record { sfits = c .less .ok
 
 pub approximate-spec : {M : Type 1} → statement M
 approximate-spec = tie.close (tie.spec (λ c. search needs) (λ c. search needs) (λ c. search needs) (λ c. search needs)
-    (λ c. search needs) (λ c. search needs) (λ c. search needs) (λ c. search needs) (λ c. search needs)
+    (λ c. search needs) (λ c. search needs) (λ c. search needs) (λ c. search needs) (λ c. search needs) (λ c. search needs)
     (λ c κs. search needs) returns)

@@ -1,4 +1,5 @@
-use Rattle.learn.proofs.AheadOf.{ended-at, ended-past}
+-- `ended` meets its contract.
+use Rattle.slopes.proofs.AheadOf.{ended-at, ended-past}
 use borrow.Author.Needs.{needs}
 use Rattle.learn.proofs.runs.ended.Statement.{statement}
 use Rattle.learn.proofs.runs.ended.Tie as tie

@@ -1,4 +1,4 @@
-use mir.Syntax.{w32}
+-- `less` meets its contract.
 use mir.Facts.{toZ-ofZ}
 use Rattle.learn.proofs.Differences.{less-is, less-fits}
 use borrow.Author.Needs.{needs}
@@ -7,4 +7,4 @@ use Rattle.learn.proofs.runs.less.Tie as tie
 
 pub less-spec : {M : Type 1} → statement M
 less-spec = tie.close (tie.spec (λ c. search needs) (λ c. search needs) (λ c. search (less-is, less-fits, needs))
-    (λ c. search (less-is, toZ-ofZ, w32, less-fits, needs)))
+    (λ c. search (less-is, toZ-ofZ, less-fits, needs)))
