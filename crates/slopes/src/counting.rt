@@ -28,7 +28,7 @@ pub struct Fit {
 
 // So many pages are counted at once, a row of bytes each, one for each slope.
 const ROWS: usize = 8;
-
+// Their bytes.
 const ROWS_LEN: usize = 256;
 // In a row behind the last page: no intercept is counted so far above the least.
 const NO_COUNT: u8 = 255;
