@@ -6,7 +6,7 @@ use native.Mathlib.Omega.{arith}
 use lib.ListN.{length, set, take, drop}
 use lib.Seq.{drop-drop}
 use Rattle.model.specs.Lists.{store}
-use Rattle.model.proofs.Lists.{store-nil, store-first}
+use Rattle.model.proofs.Lists.{store-nil, store-first, store-append}
 
 module _ {A : Type 0} where
   -- the last element, then the others
@@ -35,15 +35,7 @@ module _ {A : Type 0} where
 
   -- one store, and another behind it
   pub store-then : (s : List A) (p : ℕ) (vs us : List A) → store (store s p vs) (p + length vs) us ≡ store s p (vs ++ us)
-  unfolding store
-  store-then [] p vs us = refl
-  store-then (x ∷ s) zero [] us = refl
-  store-then (x ∷ s) zero (v ∷ vs) us =
-      let e : 0 + suc (length vs) ≡ suc (0 + length vs) = omega arith in
-      rw e (ap (λ (l : List A). v ∷ l) (store-then s zero vs us))
-  store-then (x ∷ s) (suc p) vs us =
-      let e : suc p + length vs ≡ suc (p + length vs) = omega arith in
-      rw e (ap (λ (l : List A). x ∷ l) (store-then s p vs us))
+  store-then s p vs us = sym (store-append s p vs us)
 
   -- the first n elements after a store
   pub take-store : (n : ℕ) (s : List A) (p : ℕ) (vs : List A) → take n (store s p vs) ≡ store (take n s) p vs

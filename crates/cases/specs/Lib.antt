@@ -6,3 +6,4 @@ pub mod Traps
 pub mod Refused
 pub mod Ways
 pub mod Shams
+pub mod Passes

@@ -8,6 +8,7 @@ pub mod Blocks
 pub mod Bits
 pub mod Marks
 pub mod SpareArea
+pub mod OnePass
 pub mod Image
 pub mod PageNamed
 pub mod Line

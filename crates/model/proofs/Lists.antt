@@ -1,6 +1,6 @@
 -- Laws of the list functions: membership, ascending lists, places, selections, stores. Assumes nothing.
 use mathlib.Core.Path.{_≡_, refl, sym, _∙_, ap}
-use mathlib.Core.List.{List, [], _∷_}
+use mathlib.Core.List.{List, [], _∷_, _++_}
 use mathlib.Core.Logic.{_≢_, _⊎_, inl, inr}
 use mathlib.Core.Bool.{true≢false, Bool, true, false}
 use Prim.Native.Nat.{ℕ, zero, suc, _+_, _≤_, _<_}
@@ -223,6 +223,28 @@ module _ {A : Type 0} where
   store-front s [] h = refl
   store-front [] (v ∷ vs) h = absurd (let z : ⊥ = omega arith in z)
   store-front (x ∷ s) (v ∷ vs) h = ap (λ (l : List A). v ∷ l) (store-front s vs (omega arith))
+
+  -- the first ones, then the others
+  pub store-append : (s : List A) (i : ℕ) (us vs : List A) → store s i (us ++ vs) ≡ store (store s i us) (i + length us) vs
+  unfolding store
+  store-append [] i us vs = refl
+  store-append (x ∷ s) zero [] vs = refl
+  store-append (x ∷ s) zero (u ∷ us) vs =
+      let e : 0 + suc (length us) ≡ suc (0 + length us) = omega arith in
+      rw e (ap (λ (l : List A). u ∷ l) (store-append s zero us vs))
+  store-append (x ∷ s) (suc i) us vs =
+      let e : suc i + length us ≡ suc (i + length us) = omega arith in
+      rw e (ap (λ (l : List A). x ∷ l) (store-append s i us vs))
+
+  -- what is stored over the first ones of others takes their place
+  pub store-over : (s : List A) (i : ℕ) (us vs ws : List A) → length us ≡ length ws → store (store s i (us ++ vs)) i ws ≡ store s i (ws ++ vs)
+  unfolding store
+  store-over [] i us vs ws h = refl
+  store-over (x ∷ s) zero [] vs [] h = store-nil (store (x ∷ s) 0 vs) 0
+  store-over (x ∷ s) zero [] vs (w ∷ ws) h = absurd (omega arith)
+  store-over (x ∷ s) zero (u ∷ us) vs [] h = absurd (omega arith)
+  store-over (x ∷ s) zero (u ∷ us) vs (w ∷ ws) h = ap (λ (l : List A). w ∷ l) (store-over s zero us vs ws (omega arith))
+  store-over (x ∷ s) (suc i) us vs ws h = ap (λ (l : List A). x ∷ l) (store-over s i us vs ws h)
 
   -- a store keeps the length
   pub length-store : (s : List A) (i : ℕ) (vs : List A) → length (store s i vs) ≡ length s

@@ -71,7 +71,7 @@ erase-other d k k′ s i j n h m =
     rw (entry-place d k′ i j)
     (store-apart s (replicate (entriesPerBlock d) nobody) (entriesPerBlock d) k′ k (i * entriesPerPage d + j) (omega (arith, length-replicate (entriesPerBlock d) nobody)) n (entry-in-block d i j h m))
 
-length-ruled : (d : Device) (w : List ℕ) (i j n : ℕ) → length (ruledEntries d w i j n) ≡ n
+pub length-ruled : (d : Device) (w : List ℕ) (i j n : ℕ) → length (ruledEntries d w i j n) ≡ n
 unfolding ruledEntries
 length-ruled d w i j zero = refl
 length-ruled d w i j (suc n) = ap suc (length-ruled d w i (suc j) n)

@@ -4,3 +4,4 @@ pub mod Conditions
 pub mod Filling
 pub mod Masks
 pub mod Insertion
+pub mod Passing

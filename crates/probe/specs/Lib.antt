@@ -1,3 +1,4 @@
 pub mod Encoded
 pub mod Groups
 pub mod Batches
+pub mod Passes

@@ -10,6 +10,7 @@ use Rattle.model.proofs.Limits.{limits, page-inside, block-in-spare}
 -- how large the sizes get
 pub record Sizes (d : Device) : Type 0 where
   pub bound : d .g ≤ 15
+  pub some : 0 < entriesPerPage d
   pub page : entriesPerPage d ≤ 31
   pub block : entriesPerBlock d ≤ 7936
   pub area : spareLength d ≤ 32505856
@@ -24,6 +25,7 @@ sizes d h =
     let b : d .B * (2 * d .g + 1) ≤ 256 * 31 = mul-le-mul (l .most-B) p in
     record {
       bound = l .most-g;
+      some = omega arith;
       page = p;
       block = b;
       area = mul-le-mul (l .most-M) b;
@@ -49,12 +51,7 @@ entry-inside d p j n e h k = rw e (omega (arith, mul-le-mul-right (entriesPerPag
 pub block-entries-inside : (d : Device) (k n : ℕ) → n ≡ entriesPerBlock d → k < d .M → k * n + n ≤ spareLength d
 block-entries-inside d k n e h = rw e (block-in-spare d k h)
 
--- page i of block k ..
+-- page i of block k
 pub page-small : (d : Device) (k i : ℕ) → withinLimits d ≡ true → k < d .M → i < d .B → k * d .B + i < 1048576
 unfolding firstPage
 page-small d k i w h l = omega (arith, page-inside d k i h l, sizes d w .count)
-
--- .. and its entries
-pub page-entries-inside : (d : Device) (k i n : ℕ) → n ≡ entriesPerPage d → k < d .M → i < d .B → (k * d .B + i) * n + n ≤ spareLength d
-unfolding pages firstPage entriesPerBlock spareLength
-page-entries-inside d k i n e h l = rw e (omega (arith, mul-le-mul-right (entriesPerPage d) (page-inside d k i h l)))

@@ -1,14 +1,16 @@
 // The spare area as a layer of its own (document 01, 'The device'): it is erased by whole blocks, its pages are programmed once
-// after the erase, and a lookup reads from it which page holds a logical page. By its functions a caller can't program without an
-// erase: of those that program, `program_block` alone is public, and it erases its block first.
+// after the erase, and a lookup reads from it which page holds a logical page. A block is erased and programmed in one pass
+// (document 02, c), which writes each of its entries a single time and may be stopped after any. By its functions a caller can't
+// program without an erase: of those that program, `program_block` alone is public, and its pass is erase and programming.
 ghost use mathlib.Core.Path.{_≡_};
 ghost use mathlib.Core.Bool.{true};
-ghost use Prim.Native.Nat.{_+_, _-_, _≤_, _<_};
-ghost use lib.ListN.{length, replicate};
+ghost use Prim.Native.Nat.{_+_, _*_, _-_, _≤_, _<_};
+ghost use lib.ListN.{length, take, drop, replicate};
 ghost use Rattle.model.specs.Lists.{store};
 ghost use Rattle.model.specs.Device.{withinLimits, pages, namesPerPage, entriesPerPage, entriesPerBlock, spareLength};
-ghost use Rattle.model.specs.Spare.{nobody, entry, middle, entryRule, erase, programPage, programPages, programBlock, names, lowestNaming, pageNamed};
+ghost use Rattle.model.specs.Spare.{nobody, entry, middle, erase, passBlock, Stopped, names, lowestNaming, pageNamed};
 ghost use Rattle.spare.specs.Read.{numbersOf, namedOf};
+ghost use Rattle.spare.specs.Around.{rows};
 
 // The device numbers: m blocks of b pages, n logical pages, the error bound g.
 pub struct Numbers {
@@ -36,7 +38,7 @@ fn entries_per_page(d: Numbers) -> u32
 }
 
 // How many a block has.
-fn entries_per_block(d: Numbers) -> u32
+pub fn entries_per_block(d: Numbers) -> u32
     requires { ⌜ withinLimits (numbersOf d) ≡ true ⌝ }
     ensures { λ r. ⌜ r ≡ entriesPerBlock (numbersOf d) ⌝ }
 {
@@ -151,58 +153,127 @@ pub fn erase_all(spare: &mut [u32])
     blank(spare, 0, n);
 }
 
-// What entry j of a block's page i is to name, where written lists the logical pages from the block's first page on.
-fn entry_rule(d: Numbers, written: &[u32], i: u32, j: u32) -> u32
-    requires { ⌜ (withinLimits (numbersOf d) ≡ true) × (i < d .b) × (j < entriesPerPage (numbersOf d)) ⌝ }
-    ensures { λ r. ⌜ r ≡ entryRule (numbersOf d) (now (written .entry)) i j ⌝ }
+// The m entries from place at on are written: those of another slice from place i on.
+fn copy(to: &mut [u32], at: usize, from: &[u32], i: usize, m: usize)
+    requires { ⌜ (at + m ≤ length (now to)) × (i + m ≤ length (now from)) ⌝ }
+    ensures { λ _. ⌜ now (to .exit) ≡ store (now (to .entry)) at (take m (drop i (now (from .entry)))) ⌝ }
 {
-    let g = d.g;
-    if i + j < g {
-        return NOBODY;
-    }
-    let y = (i + j - g) as usize;
-    if y < written.len() {
-        return written[y];
-    }
-    NOBODY
-}
-
-// Page i of block k is programmed.
-fn program_page(spare: &mut [u32], d: Numbers, written: &[u32], k: u32, i: u32)
-    requires { ⌜ (withinLimits (numbersOf d) ≡ true) × (length (now spare) ≡ spareLength (numbersOf d))
-        × (k < d .m) × (i < d .b) ⌝ }
-    ensures { λ _. ⌜ now (spare .exit) ≡ programPage (numbersOf d) (now (written .entry)) k i (now (spare .entry)) ⌝ }
-{
-    let n = entries_per_page(d);
-    let a = (k * d.b + i) * n;
-    let mut e = 0;
-    while e < n {
-        let at = (a + e) as usize;
-        spare[at] = entry_rule(d, written, i, e);
-        e += 1;
+    let mut j = 0;
+    while j < m {
+        to[at + j] = from[i + j];
+        j += 1;
     }
 }
 
-// The pages of block k that written lists are programmed, each once.
-fn program_pages(spare: &mut [u32], d: Numbers, written: &[u32], k: u32)
-    requires { ⌜ (withinLimits (numbersOf d) ≡ true) × (length (now spare) ≡ spareLength (numbersOf d))
-        × (k < d .m) × (length (now written) ≤ d .b) ⌝ }
-    ensures { λ _. ⌜ now (spare .exit)
-        ≡ programPages (numbersOf d) (now (written .entry)) k 0 (length (now (written .entry))) (now (spare .entry)) ⌝ }
+// Of the m entries of another slice from place i on as many as may still be written, `left`, are written from place at on. The answer is
+// how many may be written after them.
+fn put(spare: &mut [u32], at: usize, from: &[u32], i: usize, m: usize, left: usize) -> usize
+    requires { ⌜ (at + m ≤ length (now spare)) × (i + m ≤ length (now from)) ⌝ }
+    ensures count { λ r. ⌜ r ≡ left - m ⌝ }
+    ensures written { λ _. ⌜ now (spare .exit) ≡ store (now (spare .entry)) at (take left (take m (drop i (now (from .entry))))) ⌝ }
 {
+    if left < m {
+        copy(spare, at, from, i, left);
+        return 0;
+    }
+    copy(spare, at, from, i, m);
+    left - m
+}
+
+// The entries of the pages are written one after the other from place a on, n for each: those from place i on of what lies around, for
+// page i. No more than `stop` are written; the answer is how many may be after them.
+fn program_pages(
+    spare: &mut [u32],
+    around: &[u32],
+    pages: usize,
+    n: usize,
+    a: usize,
+    stop: usize,
+) -> usize
+    requires { ⌜ (a + pages * n ≤ length (now spare)) × (pages + n ≤ length (now around) + 1) ⌝ }
+    ensures count { λ r. ⌜ r ≡ stop - pages * n ⌝ }
+    ensures written { λ _. ⌜ now (spare .exit) ≡ store (now (spare .entry)) a (take stop (rows (now (around .entry)) n 0 pages)) ⌝ }
+{
+    let mut left = stop;
+    let mut at = a;
     let mut i = 0;
-    while i < written.len() {
-        program_page(spare, d, written, k, i as u32);
+    while i < pages {
+        left = put(spare, at, around, i, n, left);
+        at += n;
         i += 1;
     }
+    left
 }
 
-// Block k is erased, then its pages that written lists are programmed.
-pub fn program_block(spare: &mut [u32], d: Numbers, written: &[u32], k: u32)
-    requires { ⌜ (withinLimits (numbersOf d) ≡ true) × (length (now spare) ≡ spareLength (numbersOf d))
-        × (k < d .m) × (length (now written) ≤ d .b) ⌝ }
-    ensures { λ _. ⌜ now (spare .exit) ≡ programBlock (numbersOf d) (now (written .entry)) k (now (spare .entry)) ⌝ }
+// The same: for each number of entries a page from 17 on, the compiler knows how many it copies.
+fn program_wide(
+    spare: &mut [u32],
+    around: &[u32],
+    pages: usize,
+    n: usize,
+    a: usize,
+    stop: usize,
+) -> usize
+    requires { ⌜ (a + pages * n ≤ length (now spare)) × (pages + n ≤ length (now around) + 1) ⌝ }
+    ensures count { λ r. ⌜ r ≡ stop - pages * n ⌝ }
+    ensures written { λ _. ⌜ now (spare .exit) ≡ store (now (spare .entry)) a (take stop (rows (now (around .entry)) n 0 pages)) ⌝ }
 {
-    erase(spare, d, k);
-    program_pages(spare, d, written, k);
+    match n {
+        17 => return program_pages(spare, around, pages, 17, a, stop),
+        19 => return program_pages(spare, around, pages, 19, a, stop),
+        21 => return program_pages(spare, around, pages, 21, a, stop),
+        23 => return program_pages(spare, around, pages, 23, a, stop),
+        25 => return program_pages(spare, around, pages, 25, a, stop),
+        27 => return program_pages(spare, around, pages, 27, a, stop),
+        29 => return program_pages(spare, around, pages, 29, a, stop),
+        _ => return program_pages(spare, around, pages, n, a, stop),
+    }
+}
+
+// The same, for those below 17 too. One entry a page is the written pages themselves, in one piece.
+fn program_narrow(
+    spare: &mut [u32],
+    around: &[u32],
+    pages: usize,
+    n: usize,
+    a: usize,
+    stop: usize,
+) -> usize
+    requires { ⌜ (a + pages * n ≤ length (now spare)) × (pages + n ≤ length (now around) + 1) ⌝ }
+    ensures count { λ r. ⌜ r ≡ stop - pages * n ⌝ }
+    ensures written { λ _. ⌜ now (spare .exit) ≡ store (now (spare .entry)) a (take stop (rows (now (around .entry)) n 0 pages)) ⌝ }
+{
+    match n {
+        1 => return put(spare, a, around, 0, pages, stop),
+        3 => return program_pages(spare, around, pages, 3, a, stop),
+        5 => return program_pages(spare, around, pages, 5, a, stop),
+        7 => return program_pages(spare, around, pages, 7, a, stop),
+        9 => return program_pages(spare, around, pages, 9, a, stop),
+        11 => return program_pages(spare, around, pages, 11, a, stop),
+        13 => return program_pages(spare, around, pages, 13, a, stop),
+        15 => return program_pages(spare, around, pages, 15, a, stop),
+        _ => return program_wide(spare, around, pages, n, a, stop),
+    }
+}
+
+// The entries of block k are written, each a single time, from its first to its last, until stop of them are: those of the pages that
+// written lists, then the unused pages' as erased. What is written is counted down from the stop, so an entry written twice would be
+// missing at the end. A flush or collection asks for all of them.
+pub fn program_block(spare: &mut [u32], d: Numbers, written: &[u32], k: u32, stop: usize)
+    requires { ⌜ (withinLimits (numbersOf d) ≡ true) × (length (now spare) ≡ spareLength (numbersOf d))
+        × (k < d .m) × (length (now written) ≤ d .b) × (stop ≤ entriesPerBlock (numbersOf d)) ⌝ }
+    ensures { λ _. ⌜ now (spare .exit) ≡ passBlock (numbersOf d) (now (written .entry)) k stop (now (spare .entry)) ⌝ }
+    ensures { λ _. ⌜ Stopped (numbersOf d) (now (written .entry)) k stop (now (spare .entry)) (now (spare .exit)) ⌝ }
+{
+    let g = d.g as usize;
+    let b = d.b as usize;
+    let n = entries_per_page(d) as usize;
+    let pages = written.len();
+    let a = k as usize * (b * n);
+    // What was written, with places that name nobody around it, 15 at most on either side: entry j of page i is at place i + j.
+    let mut around = [NOBODY; 286];
+    copy(&mut around, g, written, 0, pages);
+    let left = program_narrow(spare, &around, pages, n, a, stop);
+    let at = a + pages * n;
+    blank(spare, at, at + left);
 }

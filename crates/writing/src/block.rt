@@ -31,5 +31,6 @@ pub fn write_block(state: &mut [u8], spare: &mut [u32], d: Numbers, k: u32, page
     let first = k * d.b;
     set_count(state, d, k, n);
     take_in_all(state, d, pages, first);
-    spare::program_block(spare, d, pages, k);
+    let all = spare::entries_per_block(d) as usize;
+    spare::program_block(spare, d, pages, k, all);
 }

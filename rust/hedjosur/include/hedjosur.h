@@ -105,10 +105,10 @@ extern "C" {
 #endif
 
 /* The version of this header, of the Rust crate and of the archive's interface. */
-#define HEDJOSUR_VERSION "0.2.1"
+#define HEDJOSUR_VERSION "0.2.2"
 #define HEDJOSUR_VERSION_MAJOR 0
 #define HEDJOSUR_VERSION_MINOR 2
-#define HEDJOSUR_VERSION_PATCH 1
+#define HEDJOSUR_VERSION_PATCH 2
 
 /* The version that the caller was compiled with. */
 static inline const char *hedjosur_version(void)

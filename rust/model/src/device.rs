@@ -62,6 +62,11 @@ impl Device {
         2 * self.bound as usize + 1
     }
 
+    /// The spare entries of a block's pages.
+    pub fn entries_per_block(&self) -> usize {
+        self.block_pages as usize * self.entries_per_page()
+    }
+
     /// The entries of the whole spare area, 'stored page after page'.
     pub fn spare_length(&self) -> usize {
         self.pages() as usize * self.entries_per_page()

@@ -1,5 +1,7 @@
 //! The spare area: 'a layer of its own: it erases whole blocks, and programs
-//! each page of a block once after the erase'.
+//! each page of a block once after the erase'. The block that a flush or
+//! collection opens is written in one pass, and 'the layer counts this as erase
+//! and programming'.
 //!
 //! The area is lent as a slice of 32-bit entries, 2g + 1 for each page, stored
 //! page after page. These functions expect a slice of the right length.
@@ -22,25 +24,14 @@ pub fn middle(device: &Device, area: &[u32], page: u32) -> u32 {
 
 /// Erases a whole block: all its pages name nobody.
 pub fn erase(device: &Device, area: &mut [u32], block: u32) {
-    for page in device.pages_of_block(block) {
-        entries_mut(device, area, page).fill(NOBODY);
-    }
-}
-
-/// Programs a page that was not programmed since its block's last erase.
-pub fn program(device: &Device, area: &mut [u32], page: u32, named: &[u32]) {
-    let entries = entries_mut(device, area, page);
-    assert!(
-        entries.iter().all(|&entry| entry == NOBODY),
-        "page {page} is programmed twice"
-    );
-    entries.copy_from_slice(named);
+    let length = device.entries_per_block();
+    area[block as usize * length..][..length].fill(NOBODY);
 }
 
 /// The entries of `page` when one flush or collection wrote `written` on
-/// consecutive pages from `first`: 'entry j of page p names the logical page
-/// that the same flush or collection wrote at p − g + j, or 4,294,967,295 if it
-/// wrote none there'.
+/// consecutive pages from `first`, this page among them: 'entry j of page p names
+/// the logical page that the same flush or collection wrote at p − g + j, or
+/// 4,294,967,295 if it wrote none there'.
 pub fn neighbours(device: &Device, first: u32, written: &[u32], page: u32) -> Vec<u32> {
     (0..device.entries_per_page())
         .map(|j| {
@@ -53,14 +44,33 @@ pub fn neighbours(device: &Device, first: u32, written: &[u32], page: u32) -> Ve
         .collect()
 }
 
-/// Erases a block, then programs its first pages with `written`: 'a flush or
-/// collection erases its block first, so the pages it doesn't use name nobody'.
+/// Writes the whole block that a flush or collection opens, with `written` on its
+/// first pages.
 pub fn write(device: &Device, area: &mut [u32], block: u32, written: &[u32]) {
-    erase(device, area, block);
+    pass(device, area, block, written, device.entries_per_block());
+}
+
+/// The pass over that block, stopped after `stop` entries: 'each entry of a flush's
+/// or collection's block written a single time', page after page, entry 0 to last,
+/// the unused pages' too. No erase comes first: the pass 'leaves the block's first
+/// k final and every other byte as lent'. A stop behind the last entry stops
+/// nothing.
+pub fn pass(device: &Device, area: &mut [u32], block: u32, written: &[u32], stop: usize) {
+    let pages = device.pages_of_block(block);
+    let names = pages.flat_map(|page| final_entries(device, block, written, page));
+    let from = block as usize * device.entries_per_block();
+    for (entry, named) in area[from..].iter_mut().zip(names).take(stop) {
+        *entry = named;
+    }
+}
+
+/// The entries that the whole pass leaves a page of its block: 'the pages it
+/// doesn't use name nobody', however near to a page that it uses.
+fn final_entries(device: &Device, block: u32, written: &[u32], page: u32) -> Vec<u32> {
     let first = device.pages_of_block(block).start;
-    for page in first..first + written.len() as u32 {
-        let named = neighbours(device, first, written, page);
-        program(device, area, page, &named);
+    match page < first + written.len() as u32 {
+        true => neighbours(device, first, written, page),
+        false => vec![NOBODY; device.entries_per_page()],
     }
 }
 
@@ -89,9 +99,4 @@ pub fn existing(device: &Device, page: i64) -> Option<u32> {
 /// The page that entry `j` of `page` is about: p − g + j.
 fn page_of_entry(device: &Device, page: u32, j: usize) -> i64 {
     i64::from(page) - i64::from(device.bound) + j as i64
-}
-
-fn entries_mut<'a>(device: &Device, area: &'a mut [u32], page: u32) -> &'a mut [u32] {
-    let width = device.entries_per_page();
-    &mut area[page as usize * width..][..width]
 }
