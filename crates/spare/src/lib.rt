@@ -226,6 +226,7 @@ fn program_wide(
         25 => return program_pages(spare, around, pages, 25, a, stop),
         27 => return program_pages(spare, around, pages, 27, a, stop),
         29 => return program_pages(spare, around, pages, 29, a, stop),
+        31 => return program_pages(spare, around, pages, 31, a, stop),
         _ => return program_pages(spare, around, pages, n, a, stop),
     }
 }

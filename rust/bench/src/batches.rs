@@ -12,7 +12,7 @@ use crate::row;
 use crate::timing::compare;
 
 /// How many inputs of a pattern take turns.
-const INPUTS: u64 = 8;
+pub const INPUTS: u64 = 8;
 
 /// Learning, by the baseline or the proved code.
 type Learn = fn(written: &[u32], first: u32, bound: u32, out: &mut [u8]) -> usize;

@@ -13,6 +13,7 @@ mod buffers;
 mod calls;
 mod groups;
 mod kinds;
+mod passes;
 mod timing;
 
 use std::process::ExitCode;
@@ -20,9 +21,10 @@ use std::process::ExitCode;
 use timing::Comparison;
 
 /// What is timed, by the function's name in the table.
-const PARTS: [(&str, fn()); 16] = [
+const PARTS: [(&str, fn()); 17] = [
     ("learn", batches::learning),
     ("sort", batches::sorting),
+    ("program", passes::programming),
     ("sound", groups::soundness),
     ("find", groups::finding),
     ("insert", groups::insertion),

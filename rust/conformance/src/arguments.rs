@@ -289,7 +289,7 @@ pub fn check_limits(calls: &impl Calls) {
 }
 
 /// Device numbers, each at, inside and past its limits.
-fn numbers_at_limits() -> impl Iterator<Item = [u32; 4]> {
+pub(crate) fn numbers_at_limits() -> impl Iterator<Item = [u32; 4]> {
     let blocks = [0, 2, 3, 4, 4095, 4096, 4097, u32::MAX];
     let block_pages = [0, 3, 4, 5, 255, 256, 257, u32::MAX];
     let bounds = [0, 1, 15, 16, u32::MAX];

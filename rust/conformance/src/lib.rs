@@ -5,6 +5,7 @@
 //!   and the baseline
 //! - [`inputs`]: batches, groups and bytes, good and damaged
 //! - [`batches`]: sorting and learning against the model
+//! - [`passes`]: a block's spare entries against the model
 //! - [`groups`]: soundness, find, insertion and compaction against the model
 //! - [`calls`]: the calls on a whole state, [`beside`]: one made by the model and
 //!   by an implementation, and [`answers`]: how often each answer came
@@ -28,5 +29,6 @@ pub mod groups;
 pub mod histories;
 pub mod inputs;
 pub mod marks;
+pub mod passes;
 pub mod scripts;
 pub mod subjects;

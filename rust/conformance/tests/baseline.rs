@@ -1,7 +1,7 @@
 //! The baseline against the model.
 
 use hedjosur_conformance::subjects::Baseline;
-use hedjosur_conformance::{arguments, batches, groups, histories, marks};
+use hedjosur_conformance::{arguments, batches, groups, histories, marks, passes};
 
 #[test]
 fn sorting() {
@@ -11,6 +11,11 @@ fn sorting() {
 #[test]
 fn learning() {
     batches::check_learning(&Baseline);
+}
+
+#[test]
+fn programming() {
+    passes::check_programming(&Baseline);
 }
 
 #[test]

@@ -1,7 +1,7 @@
 //! The proved inner functions against the model, through their static library.
 
 use hedjosur_conformance::subjects::Proved;
-use hedjosur_conformance::{batches, groups};
+use hedjosur_conformance::{batches, groups, passes};
 
 #[test]
 fn sorting() {
@@ -11,6 +11,21 @@ fn sorting() {
 #[test]
 fn learning() {
     batches::check_learning(&Proved);
+}
+
+#[test]
+fn programming() {
+    passes::check_programming(&Proved);
+}
+
+#[test]
+fn stopped_passes() {
+    passes::check_stops(&Proved);
+}
+
+#[test]
+fn arguments_of_passes() {
+    passes::check_arguments();
 }
 
 #[test]

@@ -27,6 +27,19 @@ extern "C" {
         taken_length: usize,
     ) -> u64;
 
+    fn probe_program(
+        m: u32,
+        b: u32,
+        n: u32,
+        g: u32,
+        spare: *mut u32,
+        spare_length: usize,
+        written: *const u32,
+        written_length: usize,
+        block: u32,
+        stop: u32,
+    ) -> u64;
+
     fn probe_group_sound(part: *const u8, part_length: usize, n: u32, k: u32) -> u64;
 
     fn probe_group_find(part: *const u8, part_length: usize, o: u32) -> u64;
@@ -76,6 +89,37 @@ pub fn learn(written: &[u32], first: u32, g: u32, out: &mut [u8]) -> usize {
         )
     };
     accepted(answer) as usize
+}
+
+/// Writes a block's spare entries; see `probe_program`.
+pub fn program(numbers: [u32; 4], spare: &mut [u32], written: &[u32], block: u32, stop: u32) {
+    let answer = answer_to_program(numbers, spare, written, block, stop);
+    assert_eq!(accepted(answer), 0);
+}
+
+/// The same, but it answers what `probe_program` does, [`OUTSIDE`] too.
+pub fn answer_to_program(
+    [m, b, n, g]: [u32; 4],
+    spare: &mut [u32],
+    written: &[u32],
+    block: u32,
+    stop: u32,
+) -> u64 {
+    // SAFETY: two borrowed slices, the first for writing.
+    unsafe {
+        probe_program(
+            m,
+            b,
+            n,
+            g,
+            spare.as_mut_ptr(),
+            spare.len(),
+            written.as_ptr(),
+            written.len(),
+            block,
+            stop,
+        )
+    }
 }
 
 /// Whether a group's bytes are sound; see `probe_group_sound`.

@@ -11,12 +11,14 @@
 //! |---|---|---|---|
 //! | `probe_sort` | `batch: &[u32], pages: &mut [u32], sources: &mut [u32]` | at most 256 pages, each below 2^20; both lists not shorter | count; the logical pages, sorted, and their last arrival indexes stand at the front of the lists |
 //! | `probe_learn` | `written: &[u32], first: u32, g: u32, out: &mut [u8], taken: &mut [u32]` | ascending, at most 256, `first` + length at most 2^21, g at most 15; 8 bytes of `out` and an entry of `taken` a page | count; the records, 8 bytes each, stand at the front of `out`, the pages that each takes at the front of `taken` |
+//! | `probe_program` | `m: u32, b: u32, n: u32, g: u32, spare: &mut [u32], written: &[u32], block: u32, stop: u32` | device numbers within document 01's limits, `spare` of their length, `block` below m, at most b pages written, `stop` at most b × (2g + 1) | 0; the first `stop` entries of the block are those of a flush or collection that writes these pages on it |
 //! | `probe_group_sound` | `part: &[u8], n: u32, k: u32` | 5,636 bytes, k at most 4,096 | 1 if they are a sound group k of n logical pages, else 0 |
 //! | `probe_group_find` | `part: &[u8], o: u32` | sound, o below 256 | found × 2^56 + levels × 2^40 + start × 2^16 + word; where nothing is found 0 × 2^56 + all levels × 2^40 |
 //! | `probe_group_insert` | `part: &mut [u8], record: &[u8], mask: &[u8]` | sound, fewer than 512 records; 8 bytes, a record that a sound group may have; 256 bytes, 1 at the record's members and 0 elsewhere | records after |
 //! | `probe_group_compact` | `part: &mut [u8]` | sound | records left |
 //!
-//! A wrapper panics where the function answers [`OUTSIDE`].
+//! A wrapper panics where the function answers [`OUTSIDE`], but for
+//! [`answer_to_program`], with which tests call outside the condition.
 
 #![deny(unsafe_code)]
 #![warn(missing_docs)]
@@ -24,7 +26,7 @@
 #[allow(unsafe_code)]
 mod boundary;
 
-pub use boundary::{compact, find, insert, learn, sort, sound};
+pub use boundary::{answer_to_program, compact, find, insert, learn, program, sort, sound};
 
 /// The answer to arguments that don't meet a function's condition.
 pub const OUTSIDE: u64 = u64::MAX;

@@ -13,4 +13,5 @@ program-wide-spec = tie.close (tie.spec
     (λ c κs. search (at-room, needs)) (λ c. search needs) (λ c. search (at-count, at-width, needs))
     (λ c κs. search (at-room, needs)) (λ c. search needs) (λ c. search (at-count, at-width, needs))
     (λ c κs. search (at-room, needs)) (λ c. search needs) (λ c. search (at-count, at-width, needs))
+    (λ c κs. search (at-room, needs)) (λ c. search needs) (λ c. search (at-count, at-width, needs))
     (λ c κs. search needs) (λ c. search needs) (λ c. search needs))

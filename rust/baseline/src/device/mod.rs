@@ -1,5 +1,6 @@
 //! The calls on a whole state, on the bytes of docs/LAYOUT.md. Each refuses in
-//! document 01's order, and a refused call changes nothing.
+//! document 01's order, and a refused call changes nothing. [`program_block`] is no
+//! call, but what a flush or collection does with the spare area.
 
 mod agree;
 mod collect;
@@ -19,4 +20,5 @@ pub use discard::discard;
 pub use flush::flush;
 pub use format::format;
 pub use lookup::lookup;
+pub use spare::program_block;
 pub use upkeep::{compact, list};

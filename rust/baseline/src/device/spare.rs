@@ -54,6 +54,14 @@ pub(super) fn write(device: &Numbers, area: &mut [u32], block: usize, written: &
     PROGRAMS[bound](programmed, &around);
 }
 
+/// The same on a device of M, B, N and g, for tests and benchmarks. Panics where these,
+/// a length or the block is outside its limits.
+pub fn program_block(numbers: [u32; 4], area: &mut [u32], block: usize, written: &[u32]) {
+    let device = Numbers::new(numbers).expect("numbers inside their limits");
+    assert_eq!(area.len(), device.spare_entries());
+    write(&device, area, block, written);
+}
+
 /// Writes the entries of a block's first pages, so many each: entry j of page i is
 /// number i + j of those around.
 fn program<const WIDTH: usize>(entries: &mut [u32], around: &[u32]) {

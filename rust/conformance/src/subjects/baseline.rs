@@ -26,6 +26,15 @@ impl Subject for Baseline {
         learn(written, first, bound, out)
     }
 
+    fn program(&self, device: &Device, area: &mut [u32], block: u32, written: &[u32], stop: usize) {
+        assert_eq!(
+            stop,
+            device.entries_per_block(),
+            "it always writes all entries"
+        );
+        device::program_block(device.numbers(), area, block as usize, written);
+    }
+
     fn is_sound(&self, part: &Part, logical_pages: u32, number: u32) -> bool {
         group::sound(part, logical_pages, number)
     }

@@ -9,6 +9,7 @@ pub use exported::Exported;
 pub use proved::Proved;
 
 use hedjosur_layout::Part;
+use hedjosur_model::device::Device;
 use hedjosur_probe_sys::Found;
 
 /// An implementation of the inner functions; what each does is the table of
@@ -18,6 +19,8 @@ pub trait Subject {
     fn sort(&self, batch: &[u32], pages: &mut [u32], sources: &mut [u32]) -> usize;
     /// Learns a sorted batch; answers how many records it gives.
     fn learn(&self, written: &[u32], first: u32, bound: u32, out: &mut [u8]) -> usize;
+    /// Writes a block's spare entries in one pass, which stops after so many.
+    fn program(&self, device: &Device, area: &mut [u32], block: u32, written: &[u32], stop: usize);
     /// Whether any bytes are a sound group's.
     fn is_sound(&self, part: &Part, logical_pages: u32, number: u32) -> bool;
     /// Finds an offset in a sound group.

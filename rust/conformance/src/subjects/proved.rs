@@ -1,6 +1,7 @@
 //! The proved inner functions.
 
 use hedjosur_layout::Part;
+use hedjosur_model::device::Device;
 use hedjosur_probe_sys::{self as probe, Found};
 
 use super::Subject;
@@ -16,6 +17,10 @@ impl Subject for Proved {
 
     fn learn(&self, written: &[u32], first: u32, bound: u32, out: &mut [u8]) -> usize {
         probe::learn(written, first, bound, out)
+    }
+
+    fn program(&self, device: &Device, area: &mut [u32], block: u32, written: &[u32], stop: usize) {
+        probe::program(device.numbers(), area, written, block, stop as u32);
     }
 
     fn is_sound(&self, part: &Part, logical_pages: u32, number: u32) -> bool {
