@@ -4,7 +4,6 @@ use mathlib.Core.List.{List}
 use mathlib.Core.Bool.{Bool, true, false, _&&_}
 use Prim.Native.Nat.{ℕ}
 use lib.Dec.{ltb, leb, eqb}
-use lib.ListN.{length}
 use Rattle.model.specs.Device.{Device, withinLimits, entriesPerBlock, spareLength}
 use Rattle.model.specs.Spare.{passBlock}
 use Rattle.probe.specs.Groups.{outside}

@@ -13,7 +13,7 @@ use Rattle.model.specs.Device.{Device, namesPerPage, entriesPerPage, entriesPer
 use Rattle.model.specs.Spare.{nobody, entryRule, ruledEntries, pagesEntries, blockEntries, passBlock}
 use Rattle.model.proofs.Lists.{length-store, getD-store, getD-store-below, getD-store-above, replicate-at}
 use Rattle.model.proofs.OnePass.{length-pages, in-block}
-use Rattle.spare.specs.Around.{rows}
+use Rattle.spare.specs.Around.{rows, Programmed}
 use Rattle.spare.proofs.Programming.{stopped-append}
 
 -- the first of equal elements
@@ -75,7 +75,7 @@ module _ (d : Device) (w : List ℕ) (z : ℕ) (fits : length w + entriesPerPage
   -- the pass: as many of the written pages' entries as may be, and then of those that name nobody
   pub passed : (k stop n b : ℕ) (s around left done : List ℕ) (r : ℕ) → length w ≤ d .B → stop ≤ entriesPerBlock d → n ≡ entriesPerPage d → b ≡ entriesPerBlock d
       → around ≡ store (replicate z nobody) (d .g) (take (length w) (drop 0 w))
-      → (r ≡ stop - length w * n) × (left ≡ store s (k * b) (take stop (rows around n 0 (length w))))
+      → Programmed around (length w) n (k * b) stop s left r
       → done ≡ store left (k * b + length w * n) (replicate (k * b + length w * n + r - (k * b + length w * n)) nobody) → done ≡ passBlock d w k stop s
   unfolding passBlock blockEntries
   passed k stop n b s around left done r h l e f y p q =

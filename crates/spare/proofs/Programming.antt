@@ -11,7 +11,7 @@ use lib.Seq.{drop-cons, take-all, take-nil, take-append-le, take-append-add, tak
 use borrow.Author.Tests.{ltb-true, ltb-false}
 use Rattle.model.specs.Lists.{store}
 use Rattle.model.proofs.Lists.{store-nil, store-first, store-append}
-use Rattle.spare.specs.Around.{rows}
+use Rattle.spare.specs.Around.{rows, Programmed}
 
 -- the copy of m elements of l from place i on to place at begins, ..
 pub copy-start : (s l : List ℕ) (at i m : ℕ) → store s at (take m (drop i l)) ≡ store s (at + 0) (take (m - 0) (drop (i + 0) l))
@@ -92,7 +92,7 @@ module _ {around : List ℕ} {pages n a stop : ℕ} {lent s : List ℕ} {left at
       }
 
   -- every page is written
-  pub left-end : pages ≤ i → (left ≡ stop - pages * n) × (s ≡ store lent a (take stop (rows around n 0 pages)))
+  pub left-end : pages ≤ i → Programmed around pages n a stop lent s left
   unfolding rows
   left-end h =
       let f : i ≡ pages = omega (arith, v .before) in

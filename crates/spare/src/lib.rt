@@ -10,7 +10,7 @@ ghost use Rattle.model.specs.Lists.{store};
 ghost use Rattle.model.specs.Device.{withinLimits, pages, namesPerPage, entriesPerPage, entriesPerBlock, spareLength};
 ghost use Rattle.model.specs.Spare.{nobody, entry, middle, erase, passBlock, Stopped, names, lowestNaming, pageNamed};
 ghost use Rattle.spare.specs.Read.{numbersOf, namedOf};
-ghost use Rattle.spare.specs.Around.{rows};
+ghost use Rattle.spare.specs.Around.{Programmed};
 
 // The device numbers: m blocks of b pages, n logical pages, the error bound g.
 pub struct Numbers {
@@ -28,6 +28,9 @@ pub enum Named {
 
 // The entry that names nobody.
 const NOBODY: u32 = 4294967295;
+
+// A block's pages at most, and the greatest bound on either side of them.
+const AROUND: usize = 286;
 
 // How many spare entries a page has.
 fn entries_per_page(d: Numbers) -> u32
@@ -191,8 +194,7 @@ fn program_pages(
     stop: usize,
 ) -> usize
     requires { ⌜ (a + pages * n ≤ length (now spare)) × (pages + n ≤ length (now around) + 1) ⌝ }
-    ensures count { λ r. ⌜ r ≡ stop - pages * n ⌝ }
-    ensures written { λ _. ⌜ now (spare .exit) ≡ store (now (spare .entry)) a (take stop (rows (now (around .entry)) n 0 pages)) ⌝ }
+    ensures { λ r. ⌜ Programmed (now (around .entry)) pages n a stop (now (spare .entry)) (now (spare .exit)) r ⌝ }
 {
     let mut left = stop;
     let mut at = a;
@@ -215,8 +217,7 @@ fn program_wide(
     stop: usize,
 ) -> usize
     requires { ⌜ (a + pages * n ≤ length (now spare)) × (pages + n ≤ length (now around) + 1) ⌝ }
-    ensures count { λ r. ⌜ r ≡ stop - pages * n ⌝ }
-    ensures written { λ _. ⌜ now (spare .exit) ≡ store (now (spare .entry)) a (take stop (rows (now (around .entry)) n 0 pages)) ⌝ }
+    ensures { λ r. ⌜ Programmed (now (around .entry)) pages n a stop (now (spare .entry)) (now (spare .exit)) r ⌝ }
 {
     match n {
         17 => return program_pages(spare, around, pages, 17, a, stop),
@@ -241,8 +242,7 @@ fn program_narrow(
     stop: usize,
 ) -> usize
     requires { ⌜ (a + pages * n ≤ length (now spare)) × (pages + n ≤ length (now around) + 1) ⌝ }
-    ensures count { λ r. ⌜ r ≡ stop - pages * n ⌝ }
-    ensures written { λ _. ⌜ now (spare .exit) ≡ store (now (spare .entry)) a (take stop (rows (now (around .entry)) n 0 pages)) ⌝ }
+    ensures { λ r. ⌜ Programmed (now (around .entry)) pages n a stop (now (spare .entry)) (now (spare .exit)) r ⌝ }
 {
     match n {
         1 => return put(spare, a, around, 0, pages, stop),
@@ -271,8 +271,8 @@ pub fn program_block(spare: &mut [u32], d: Numbers, written: &[u32], k: u32, sto
     let n = entries_per_page(d) as usize;
     let pages = written.len();
     let a = k as usize * (b * n);
-    // What was written, with places that name nobody around it, 15 at most on either side: entry j of page i is at place i + j.
-    let mut around = [NOBODY; 286];
+    // What was written, with places that name nobody around it: entry j of page i is at place i + j.
+    let mut around = [NOBODY; AROUND];
     copy(&mut around, g, written, 0, pages);
     let left = program_narrow(spare, &around, pages, n, a, stop);
     let at = a + pages * n;

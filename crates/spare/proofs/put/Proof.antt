@@ -1,6 +1,6 @@
 -- Fewer than m, and none may be written after them; or all m.
 use borrow.Author.Needs.{needs}
-use mathlib.Core.Path.{_≡_, refl, _∙_}
+use mathlib.Core.Path.{refl, _∙_}
 use Rattle.spare.proofs.Programming.{put-some, put-all}
 use Rattle.spare.proofs.put.Statement.{statement}
 use Rattle.spare.proofs.put.Tie as tie
