@@ -207,33 +207,9 @@ fn program_pages(
     left
 }
 
-// The same: for each number of entries a page from 17 on, the compiler knows how many it copies.
-fn program_wide(
-    spare: &mut [u32],
-    around: &[u32],
-    pages: usize,
-    n: usize,
-    a: usize,
-    stop: usize,
-) -> usize
-    requires { ⌜ (a + pages * n ≤ length (now spare)) × (pages + n ≤ length (now around) + 1) ⌝ }
-    ensures { λ r. ⌜ Programmed (now (around .entry)) pages n a stop (now (spare .entry)) (now (spare .exit)) r ⌝ }
-{
-    match n {
-        17 => return program_pages(spare, around, pages, 17, a, stop),
-        19 => return program_pages(spare, around, pages, 19, a, stop),
-        21 => return program_pages(spare, around, pages, 21, a, stop),
-        23 => return program_pages(spare, around, pages, 23, a, stop),
-        25 => return program_pages(spare, around, pages, 25, a, stop),
-        27 => return program_pages(spare, around, pages, 27, a, stop),
-        29 => return program_pages(spare, around, pages, 29, a, stop),
-        31 => return program_pages(spare, around, pages, 31, a, stop),
-        _ => return program_pages(spare, around, pages, n, a, stop),
-    }
-}
-
-// The same, for those below 17 too. One entry a page is the written pages themselves, in one piece.
-fn program_narrow(
+// The same: for each number of entries a page the compiler knows how many it copies. One entry a page is the written pages themselves, in
+// one piece.
+fn program_by_width(
     spare: &mut [u32],
     around: &[u32],
     pages: usize,
@@ -253,7 +229,15 @@ fn program_narrow(
         11 => return program_pages(spare, around, pages, 11, a, stop),
         13 => return program_pages(spare, around, pages, 13, a, stop),
         15 => return program_pages(spare, around, pages, 15, a, stop),
-        _ => return program_wide(spare, around, pages, n, a, stop),
+        17 => return program_pages(spare, around, pages, 17, a, stop),
+        19 => return program_pages(spare, around, pages, 19, a, stop),
+        21 => return program_pages(spare, around, pages, 21, a, stop),
+        23 => return program_pages(spare, around, pages, 23, a, stop),
+        25 => return program_pages(spare, around, pages, 25, a, stop),
+        27 => return program_pages(spare, around, pages, 27, a, stop),
+        29 => return program_pages(spare, around, pages, 29, a, stop),
+        31 => return program_pages(spare, around, pages, 31, a, stop),
+        _ => return program_pages(spare, around, pages, n, a, stop),
     }
 }
 
@@ -274,7 +258,7 @@ pub fn program_block(spare: &mut [u32], d: Numbers, written: &[u32], k: u32, sto
     // What was written, with places that name nobody around it: entry j of page i is at place i + j.
     let mut around = [NOBODY; AROUND];
     copy(&mut around, g, written, 0, pages);
-    let left = program_narrow(spare, &around, pages, n, a, stop);
+    let left = program_by_width(spare, &around, pages, n, a, stop);
     let at = a + pages * n;
     blank(spare, at, at + left);
 }

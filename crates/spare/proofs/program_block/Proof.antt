@@ -21,7 +21,7 @@ measured c = c .before .before
 abbrev surrounded : tie.After-around3 → tie.After-copy
 surrounded c = c .before .before .before
 
-abbrev programmed : tie.After-slice-known2 → tie.After-program-narrow
+abbrev programmed : tie.After-slice-known2 → tie.After-program-by-width
 programmed c = c .before .before
 
 -- the block's entries lie in the spare area, ..
@@ -53,8 +53,8 @@ mul-a-2 c = omega (arith, inside c, small c)
 copy-requires : tie.Need-copy-requires
 copy-requires c κs = let s = start (c .before) .pre in let z = sizes _ (s .0) in (omega (arith, s .3, z .long, z .bound), omega arith)
 
-program-narrow-requires : tie.Need-program-narrow-requires
-program-narrow-requires c κs =
+program-by-width-requires : tie.Need-program-by-width-requires
+program-by-width-requires c κs =
     let m = measured (surrounded c) in
     let s = start m .pre in
     let z = sizes _ (s .0) in
@@ -67,9 +67,9 @@ add-at : tie.Need-add-at
 add-at c = let m = measured (surrounded (programmed c .before)) in omega (arith, inside m, small m, pages-fit m)
 
 -- what is left of the stop lies behind the written pages' entries
-ends : (c : tie.After-slice-known2) → length (start (measured (surrounded (programmed c .before))) .args .written .now) * measured (surrounded (programmed c .before)) .entries-per-page .result + programmed c .program-narrow .result
+ends : (c : tie.After-slice-known2) → length (start (measured (surrounded (programmed c .before))) .args .written .now) * measured (surrounded (programmed c .before)) .entries-per-page .result + programmed c .program-by-width .result
     ≤ start (measured (surrounded (programmed c .before))) .args .d .b * measured (surrounded (programmed c .before)) .entries-per-page .result
-ends c = let m = measured (surrounded (programmed c .before)) in omega (arith, programmed c .program-narrow .ensures .0, pages-fit m, stopped m)
+ends c = let m = measured (surrounded (programmed c .before)) in omega (arith, programmed c .program-by-width .ensures .0, pages-fit m, stopped m)
 
 add-blank : tie.Need-add-blank
 add-blank c = let m = measured (surrounded (programmed (c .before) .before)) in omega (arith, inside m, small m, ends (c .before))
@@ -77,7 +77,7 @@ add-blank c = let m = measured (surrounded (programmed (c .before) .before)) in 
 blank-requires : tie.Need-blank-requires
 blank-requires c κs =
     let m = measured (surrounded (programmed (c .before) .before)) in
-    (omega arith, omega (arith, programmed (c .before) .program-narrow .kept .0, inside m, ends (c .before)))
+    (omega arith, omega (arith, programmed (c .before) .program-by-width .kept .0, inside m, ends (c .before)))
 
 returns : tie.Need-returns
 returns c =
@@ -87,9 +87,9 @@ returns c =
     let m = measured a in
     let s = start m .pre in
     let width = m .entries-per-page .ensures in
-    let e = passed _ _ 286 (room (start m)) _ _ _ _ _ _ _ _ _ (s .3) (s .4) width (block-size _ _ width) (a .copy .ensures) (p .program-narrow .ensures) (b .blank .ensures) in
+    let e = passed _ _ 286 (room (start m)) _ _ _ _ _ _ _ _ _ (s .3) (s .4) width (block-size _ _ width) (a .copy .ensures) (p .program-by-width .ensures) (b .blank .ensures) in
     (e, rw e (pass-stopped _ _ _ _ _ (s .2) (s .3) (s .4) (s .1)))
 
 pub program-block-spec : {M : Type 1} → statement M
 program-block-spec = tie.close (tie.spec (λ c. search needs) (λ c. search needs) (λ c κs. search needs) (λ c. search needs) mul-a mul-a-2
-    (λ c. search needs) copy-requires (λ c. search needs) program-narrow-requires mul-at add-at add-blank blank-requires (λ c. search needs) returns)
+    (λ c. search needs) copy-requires (λ c. search needs) program-by-width-requires mul-at add-at add-blank blank-requires (λ c. search needs) returns)
