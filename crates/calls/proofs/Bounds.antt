@@ -18,7 +18,7 @@ use Rattle.model.specs.Spare.{middle, names, lowestNaming, pageNamed}
 use Rattle.model.specs.Learning.{Write, sorted}
 use Rattle.model.specs.Levels.{Group, listing, recordCount, holder, levelsTo}
 use Rattle.model.specs.Marks.{isMarked}
-use Rattle.model.specs.State.{State, groupAt, freeBlocks, usedBlocks, lowestFree, lowestIn}
+use Rattle.model.specs.State.{State, groupAt, freeBlocks, usedBlocks, lowestIn}
 use Rattle.model.proofs.Bools.{and-l, and-r, or-none, all-head, all-tail}
 use Rattle.model.proofs.Limits.{Limits, limits, page-inside}
 use Rattle.model.proofs.Blocks.{lowest-free, free-and-used}
@@ -34,7 +34,7 @@ use Rattle.calls.specs.Flush.{flushChecks, flushDone}
 use Rattle.calls.specs.Lookup.{lookedNamed, lookedAt, lookedBy, descend, seek, answerOf, lookupChecks, lookupDone}
 use Rattle.calls.specs.Discard.{discardDone}
 use Rattle.calls.specs.Choice.{Used, usedBy, ranked, takeWhile, victimsBy, blocksOf, pagesOf, copyBy, movesBy, firstOf}
-use Rattle.calls.specs.Collection.{valid, victims, moves, collectChecks, firstMoved, collectDone}
+use Rattle.calls.specs.Collection.{valid, moves, collectChecks, collectDone}
 use Rattle.calls.specs.Compaction.{compactDone}
 use Rattle.calls.specs.Agreement.{agreeDone}
 use Rattle.calls.specs.Listing.{listChecks, listDone}
@@ -71,7 +71,7 @@ named-inside d spare p x q h e = go (eqb (middle d spare p) x) e
 
 module _ (d : Device) (l : Limits d) where
   -- a device has at most 2^20 pages
-  pages-most : pages d ≤ pageLimit
+  pub pages-most : pages d ≤ pageLimit
   unfolding pages
   pages-most = omega (arith, l .most-M, mul-le-mul-left (d .M) (l .most-B))
 
@@ -137,30 +137,29 @@ taken-most room (u ∷ l) = go (leb (length (u .pages)) room) refl (taken-most (
     go true q ih = rw (q, takeWhile) (omega (arith, ih))
     go false q ih = rw (q, takeWhile) (omega arith)
 
--- a state has a count for each block
-module _ (s : State) (counted : length (s .counts) ≡ s .device .M) (l : Limits (s .device)) where
-  lowest-small : firstPage (s .device) (lowestFree s) < pageLimit
+-- a count for each block, whatever test tells a valid page and whatever name it has: both engines' collections
+module _ (d : Device) (cs : List ℕ) (counted : length cs ≡ d .M) (l : Limits d) where
+  pub lowest-small : firstPage d (lowestIn cs) < pageLimit
   unfolding lowestIn
-  lowest-small = first-small (s .device) l (lowestFree s) (go (freeBlocks 0 (s .counts)) refl)
+  lowest-small = first-small d l (lowestIn cs) (go (freeBlocks 0 cs) refl)
     where
-      go : (f : List ℕ) → freeBlocks 0 (s .counts) ≡ f → lowestFree s < s .device .M
-      go [] e = let z : lowestFree s ≡ 0 = rw e in omega (arith, l .least-M)
-      go (k ∷ f) e = omega (arith, lowest-free (s .counts) (omega (arith, ap length e)) .0)
+      go : (f : List ℕ) → freeBlocks 0 cs ≡ f → lowestIn cs < d .M
+      go [] e = let z : lowestIn cs ≡ 0 = rw e in omega (arith, l .least-M)
+      go (k ∷ f) e = omega (arith, lowest-free cs (omega (arith, ap length e)) .0)
 
-  victims-most : (spare : List ℕ) → length (blocksOf (victims s spare)) ≤ 4096
+  pub victims-most : (valid : ℕ → Bool) → length (blocksOf (victimsBy valid d cs)) ≤ 4096
   unfolding victimsBy
-  victims-most spare =
-      let us : List Used = map (usedBy (valid s spare) (s .device)) (usedBlocks 0 (s .counts)) in
-      omega (arith, taken-most (s .device .B) (ranked us), ranked-length us, length-map (usedBlocks 0 (s .counts)) (usedBy (valid s spare) (s .device)), free-and-used 0 (s .counts), l .most-M)
+  victims-most valid =
+      let us : List Used = map (usedBy valid d) (usedBlocks 0 cs) in
+      omega (arith, taken-most (d .B) (ranked us), ranked-length us, length-map (usedBlocks 0 cs) (usedBy valid d), free-and-used 0 cs, l .most-M)
 
-  moves-most : (spare : List ℕ) → length (moves s spare) ≤ 256
+  pub moves-most : (valid : ℕ → Bool) (name : ℕ → ℕ) → length (movesBy name (victimsBy valid d cs)) ≤ 256
   unfolding movesBy
-  moves-most spare =
-      let name : ℕ → ℕ = middle (s .device) spare in
-      let ps : List ℕ = pagesOf (victims s spare) in
-      omega (arith, sort-length (map (copyBy name) ps), length-map ps (copyBy name), pages-fit (valid s spare) (s .device) (s .counts), l .most-B)
+  moves-most valid name =
+      let ps : List ℕ = pagesOf (victimsBy valid d cs) in
+      omega (arith, sort-length (map (copyBy name) ps), length-map ps (copyBy name), pages-fit valid d cs, l .most-B)
 
-  first-moved : (ws : List Write) → firstMoved ws s < pageLimit
+  pub first-moved : (ws : List Write) → firstOf ws d cs < pageLimit
   unfolding firstOf
   first-moved [] = omega arith
   first-moved (w ∷ ws) = lowest-small
@@ -172,7 +171,7 @@ flush-fits batch x counted e =
     let c = clears _ e in
     let l = numbered (x .state) (c .0) in
     let f = ltb-false (x .state .device .B) (length batch) (or-none (isEmpty batch) _ (c .1 .1 .1 .1 .1 .0) .1) in
-    (lowest-small (x .state) counted l, omega (arith, sorted-length batch, f, l .most-B))
+    (lowest-small (x .state .device) (x .state .counts) counted l, omega (arith, sorted-length batch, f, l .most-B))
 
 -- A collection's likewise; it erases at most 4,096 blocks.
 collect-fits : (x : Lent) → length (x .state .counts) ≡ x .state .device .M → firstRefusal (collectChecks x) ≡ none → Bounded (collectDone x .answer)
@@ -180,7 +179,11 @@ unfolding collectChecks collectDone Bounded
 collect-fits x counted e =
     let s : State = x .state in
     let l = numbered s (clears _ e .0) in
-    (first-moved s counted l (moves s (x .spare)), moves-most s counted l (x .spare), victims-most s counted l (x .spare))
+    let test : ℕ → Bool = valid s (x .spare) in (
+      first-moved (s .device) (s .counts) counted l (moves s (x .spare)),
+      moves-most (s .device) (s .counts) counted l test (middle (s .device) (x .spare)),
+      victims-most (s .device) (s .counts) counted l test,
+    )
 
 effect-fits : (c : Call) (s : State) (spare : List ℕ) → length (s .counts) ≡ s .device .M → firstRefusal (checksOf c (lentTo c s spare)) ≡ none → Bounded (effect c (lentTo c s spare) .answer)
 unfolding checksOf lentTo lend effect formatDone discardDone compactDone agreeDone Bounded

@@ -28,8 +28,8 @@ use Rattle.calls.proofs.MapCollecting.{collect-free}
 use Rattle.calls.proofs.Fitting.{some-left, fits-of, fits-decides}
 use Rattle.calls.proofs.MapHolding.{MapHolds, makes-holds, starts-hold}
 
--- the answers of accepted calls are accepted
-answers-accepted : (m : PageMap) (c : Call) (a : Answer) → MapAnswers m c a → accepted a ≡ true
+-- The answers of accepted calls are accepted.
+pub answers-accepted : (m : PageMap) (c : Call) (a : Answer) → MapAnswers m c a → accepted a ≡ true
 unfolding accepted
 answers-accepted m c a (formats d) = refl
 answers-accepted m c a (flushes batch plan) = refl

@@ -1,5 +1,5 @@
--- Demand 3, whole: one claim about every list of calls, made of any machine that runs them. There are three: the page map, the
--- definitions, and the functions on lent bytes by their contracts (crates/history). Assumes nothing.
+-- Demand 3, whole: one claim about every list of calls, made of any machine that runs them: the page map, the definitions, and the
+-- functions on lent bytes by their contracts (crates/history); and the plain engine's two (crates/plain, crates/history). Assumes nothing.
 use mathlib.Core.Path.{_≡_}
 use mathlib.Core.List.{List}
 use mathlib.Core.Option.{some}

@@ -4,6 +4,9 @@ pub mod Opens
 pub mod Table
 pub mod Traps
 pub mod Refused
+pub mod PlainSmall
+pub mod Plain
+pub mod PlainShams
 pub mod Ways
 pub mod Shams
 pub mod Passes

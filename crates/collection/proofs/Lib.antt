@@ -1,12 +1,5 @@
-pub mod Chosen
-pub mod Entries
-pub mod Sizes
-pub mod Taken
-pub mod Totals
-pub mod Choosing
 pub mod Judging
 pub mod Gathering
 pub mod Moved
 pub mod Clearing
-pub mod Deciding
 pub mod Ending

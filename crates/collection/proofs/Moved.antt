@@ -7,12 +7,13 @@ use Prim.Native.Nat.{ℕ, _*_, _≤_, _<_}
 use native.Mathlib.Omega.{arith}
 use lib.Dec.{ltb}
 use lib.ListN.{length, take, length-map}
-use borrow.Author.Tests.{lt-ltb}
+use borrow.Author.Tests.{lt-ltb, ltb-true}
 use Rattle.model.specs.Lists.{all, elem, ascending, store}
 use Rattle.model.specs.Device.{Device, firstPage}
 use Rattle.model.specs.Spare.{middle, programBlock}
 use Rattle.model.specs.Learning.{Write, sort, logicals, sources}
 use Rattle.model.specs.State.{State, freeBlocks, lowestFree, lowestIn}
+use Rattle.model.proofs.Bools.{and-l}
 use Rattle.model.proofs.Lists.{all-each, of-asc, store-nil}
 use Rattle.model.proofs.Counting.{from}
 use Rattle.model.proofs.Blocks.{lowest-free}
@@ -23,14 +24,14 @@ use Rattle.calls.specs.Flush.{writeState, writeBlock}
 use Rattle.calls.specs.Choice.{blocksOf, pagesOf, copyBy, movesBy, firstOf}
 use Rattle.calls.specs.Collection.{valid, victims, moves, moveAll, firstMoved}
 use Rattle.calls.specs.History.{lend}
-use Rattle.calls.proofs.Choosing.{pages-fit}
+use Rattle.calls.proofs.Choosing.{page-taken, pages-fit}
 use Rattle.sorting.specs.Keys.{writes}
 use Rattle.sorting.proofs.SortStores.{front}
 use Rattle.sorting.proofs.SortBatch.{same-writes}
+use Rattle.choice.proofs.Taken.{taken-again}
 use Rattle.state.proofs.Places.{small}
 use Rattle.state.specs.Shaped.{Passed}
 use Rattle.collection.proofs.Gathering.{gathered}
-use Rattle.collection.proofs.Taken.{taken-again, taken-named}
 
 -- copies, by their logical pages and their sources
 copies : (name : ℕ → ℕ) (ps : List ℕ) → writes (map name ps) ps ≡ map (copyBy name) ps
@@ -55,11 +56,16 @@ module _ (s : State) (spare : List ℕ) where
   unfolding movesBy
   moves-ascend = of-asc _ (sort-asc (map (copyBy (middle (s .device) spare)) (pagesOf (victims s spare))))
 
+  -- the logical page of a page that is taken is one
+  taken-named : (p : ℕ) → elem p (pagesOf (victims s spare)) ≡ true → middle (s .device) spare p < s .device .N
+  unfolding valid
+  taken-named p m = ltb-true (middle (s .device) spare p) (s .device .N) (and-l _ _ (page-taken (valid s spare) (s .device) (s .counts) p m .0))
+
   -- what is named by a page that is taken is below N
   named-below : (x : ℕ) → elem x (map (middle (s .device) spare) (pagesOf (victims s spare))) ≡ true → x < s .device .N
   named-below x m =
       let r = from (middle (s .device) spare) (pagesOf (victims s spare)) x m in
-      rw (r .gives) at (taken-named s spare (r .source) (r .among))
+      rw (r .gives) at (taken-named (r .source) (r .among))
 
   moves-logical : all (λ x. ltb x (s .device .N)) (logicals (moves s spare)) ≡ true
   unfolding movesBy
@@ -73,7 +79,7 @@ module _ (d : Device) (s : State) (spare : List ℕ) (v : Passed d s spare) wher
 
   -- what the taken blocks' numbers gather is what is taken
   gathered-is : (bs : List ℕ) → bs ≡ blocksOf (victims s spare) → gathered s spare bs ≡ pagesOf (victims s spare)
-  gathered-is bs e = ap (gathered s spare) e ∙ ap pagesOf (taken-again s spare)
+  gathered-is bs e = ap (gathered s spare) e ∙ ap pagesOf (taken-again (valid s spare) (s .device) (s .counts))
 
   -- Few pages are gathered, and few are moved.
   pub gathered-few : (bs : List ℕ) → bs ≡ blocksOf (victims s spare) → length (gathered s spare bs) ≤ 256

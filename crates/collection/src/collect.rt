@@ -1,44 +1,34 @@
 // Collection: its refusals before anything is written, then the list of the blocks that are taken, the moves and the erased blocks.
-use crate::choose::choose;
-use crate::choose::count_chosen;
 use crate::erasing::erase_blocks;
 use crate::moving::moves;
 use crate::validity::tally_all;
-use spare::Numbers;
-use state::answers::Collected;
-use state::answers::Refusal;
-use state::counts::free_count;
-use state::counts::lowest_free;
+use answers::Collected;
+use answers::Opened;
+use answers::Refusal;
+use choice::taking::Taken;
+use choice::taking::take_blocks;
+use front::Numbers;
+use front::counts::free_count;
+use front::counts::lowest_free;
 use state::groups::sound;
-use state::opening::Opened;
 use state::opening::open_with_spare;
 use writing::block::write_block;
 ghost use mathlib.Core.Path.{_≡_};
-ghost use mathlib.Core.Bool.{not, _&&_};
 ghost use mathlib.Core.List.{List, []};
 ghost use Prim.Native.Nat.{ℕ};
-ghost use lib.Dec.{eqb};
 ghost use lib.ListN.{length};
 ghost use Rattle.model.specs.Lists.{store};
 ghost use Rattle.model.specs.Learning.{logicals, sources as sourcesOf};
-ghost use Rattle.model.specs.State.{freeBlocks};
-ghost use Rattle.model.specs.Sound.{isEmpty};
-ghost use Rattle.calls.specs.Choice.{Used, blocksOf, pagesOf, noGain};
+ghost use Rattle.calls.specs.Choice.{blocksOf};
 ghost use Rattle.calls.specs.Collection.{victims, moves as movesOf, admitChecks, moveAll, firstMoved, collectDone};
 ghost use Rattle.calls.specs.History.{collectCall, lend};
-ghost use Rattle.spare.specs.Read.{numbersOf};
+ghost use Rattle.choice.specs.Taking.{choice, choiceOf, listed};
+ghost use Rattle.front.specs.Read.{numbersOf};
+ghost use Rattle.answers.specs.Answers.{collectAnswer};
+ghost use Rattle.answers.specs.Opening.{verdict, verdictOf};
 ghost use Rattle.state.specs.Reading.{readState};
-ghost use Rattle.state.specs.Shaped.{Shaped, Passed};
-ghost use Rattle.state.specs.Answers.{collectAnswer};
-ghost use Rattle.state.specs.Opening.{verdict, verdictOf};
+ghost use Rattle.state.specs.Shaped.{Passed};
 ghost use Rattle.state.specs.Ran.{Ran};
-ghost use Rattle.collection.specs.Taking.{choice, choiceOf, listed};
-
-// How many blocks are taken, or the refusal.
-enum Taken {
-    Blocks(usize),
-    Refused(Refusal),
-}
 
 // The device numbers where document 01's 1, 2 and 3 don't apply, else the refusal.
 fn check(state: &[u8], spare: &[u32], plan: &[u32], erased: &[u32]) -> Opened
@@ -62,50 +52,18 @@ fn check(state: &[u8], spare: &[u32], plan: &[u32], erased: &[u32]) -> Opened
     Opened::Device(d)
 }
 
-// Whether there is nothing to gain from c taken blocks with n valid pages: none is taken, or one with pages to move.
-fn no_gain(c: usize, n: usize) -> bool
-    ensures { λ r. ⌜ ((us : List Used) → c ≡ length us → n ≡ length (pagesOf us) → r ≡ noGain us) ⌝ }
-{
-    if c == 0 {
-        return true;
-    }
-    if 1 < c {
-        return false;
-    }
-    0 < n
-}
-
-// Whether n pages need a free block and none exists.
-fn no_block(state: &[u8], d: Numbers, n: usize) -> bool
-    requires { ⌜ Shaped (numbersOf d) (readState (now state)) ⌝ }
-    ensures { λ r. ⌜ r ≡ (not (eqb n 0) && isEmpty (freeBlocks 0 (readState (now (state .entry)) .counts))) ⌝ }
-{
-    if n == 0 {
-        return false;
-    }
-    free_count(state, d) == 0
-}
-
-// Where 8 or 6 applies, the refusal; else the taken blocks are listed at the front of `erased`. The tally is needed here only.
-fn take_blocks(state: &[u8], spare: &[u32], d: Numbers, erased: &mut [u32]) -> Taken
+// Where 8 or 6 applies, that; else the taken blocks are listed at the front of `erased`. The tally is needed here only.
+fn take(state: &[u8], spare: &[u32], d: Numbers, erased: &mut [u32]) -> Taken
     requires { ⌜ Passed (numbersOf d) (readState (now state)) (now spare) × (length (now erased) ≡ d .m) ⌝ }
-    ensures answer { λ r. ⌜ choiceOf r ≡ choice (readState (now (state .entry))) (now (spare .entry)) ⌝ }
-    ensures list { λ _. ⌜ now (erased .exit) ≡ listed (readState (now (state .entry))) (now (spare .entry)) (now (erased .entry)) ⌝ }
+    ensures { λ r. ⌜ (choiceOf r ≡ choice (victims (readState (now (state .entry))) (now (spare .entry))) (readState (now (state .entry)) .counts))
+        × (now (erased .exit) ≡ listed (victims (readState (now (state .entry))) (now (spare .entry))) (readState (now (state .entry)) .counts)
+        (now (erased .entry))) ⌝ }
 {
     let mut tally = [0u16; 4096];
     let m = d.m as usize;
     tally_all(state, spare, d, &mut tally);
-    let t = count_chosen(&tally[..m], d.b);
-    let c = t.blocks;
-    let n = t.pages;
-    if no_gain(c, n) {
-        return Taken::Refused(Refusal::NothingToGain);
-    }
-    if no_block(state, d, n) {
-        return Taken::Refused(Refusal::NoFreeBlock);
-    }
-    choose(&tally[..m], d.b, erased);
-    Taken::Blocks(c)
+    let free = free_count(state, d);
+    take_blocks(&tally[..m], d.b, free, erased)
 }
 
 // The moves are written to the lowest-numbered free block, if there are any; the first page. Their sources are in the plan already.
@@ -162,10 +120,11 @@ pub fn collect(
         Opened::Device(d) => d,
         Opened::Refused(r) => return Collected::Refused(r),
     };
-    let taken = take_blocks(state, spare, d, erased);
+    let taken = take(state, spare, d, erased);
     let c = match taken {
         Taken::Blocks(c) => c,
-        Taken::Refused(r) => return Collected::Refused(r),
+        Taken::NothingToGain => return Collected::Refused(Refusal::NothingToGain),
+        Taken::NoFreeBlock => return Collected::Refused(Refusal::NoFreeBlock),
     };
     carry_out(state, spare, plan, d, &erased[..c])
 }

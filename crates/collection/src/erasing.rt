@@ -1,5 +1,5 @@
 // The taken blocks are erased.
-use spare::Numbers;
+use front::Numbers;
 use state::counts::set_count;
 ghost use mathlib.Core.Path.{_≡_};
 ghost use mathlib.Core.Bool.{true};
@@ -11,7 +11,7 @@ ghost use Rattle.model.specs.Lists.{all};
 ghost use Rattle.model.specs.Device.{spareLength};
 ghost use Rattle.calls.specs.Collection.{eraseBlock, eraseBlocks};
 ghost use Rattle.calls.specs.History.{lend};
-ghost use Rattle.spare.specs.Read.{numbersOf};
+ghost use Rattle.front.specs.Read.{numbersOf};
 ghost use Rattle.state.specs.Reading.{readState};
 ghost use Rattle.state.specs.Shaped.{Shaped};
 

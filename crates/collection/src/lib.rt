@@ -1,5 +1,4 @@
 // Collection: the valid pages of the blocks that have the fewest are moved together, and these blocks are erased.
-mod choose;
 pub mod collect;
 mod erasing;
 mod moving;

@@ -1,7 +1,7 @@
 // What is moved: the valid pages of the taken blocks, sorted by logical page.
 use crate::validity::valid;
+use front::Numbers;
 use sorting::sort::sort_writes;
-use spare::Numbers;
 ghost use mathlib.Core.Path.{_≡_};
 ghost use mathlib.Core.Bool.{true};
 ghost use mathlib.Core.List.{map};
@@ -13,7 +13,7 @@ ghost use Rattle.model.specs.Spare.{middle};
 ghost use Rattle.model.specs.Learning.{logicals, sources as sourcesOf};
 ghost use Rattle.calls.specs.Choice.{pagesOf, blocksOf};
 ghost use Rattle.calls.specs.Collection.{usedBlock, victims, moves};
-ghost use Rattle.spare.specs.Read.{numbersOf};
+ghost use Rattle.front.specs.Read.{numbersOf};
 ghost use Rattle.state.specs.Reading.{readState};
 ghost use Rattle.state.specs.Shaped.{Passed};
 

@@ -1,8 +1,8 @@
 // Valid pages: which pages are, and how many each block has.
-use crate::choose::FREE;
-use spare::Numbers;
-use state::answers::Lookup;
-use state::counts::count;
+use answers::Lookup;
+use choice::choose::FREE;
+use front::Numbers;
+use front::counts::count;
 use state::seek::seek;
 ghost use mathlib.Core.Path.{_≡_};
 ghost use Prim.Native.Nat.{_<_, _≤_};
@@ -10,7 +10,7 @@ ghost use lib.ListN.{length};
 ghost use Rattle.model.specs.Lists.{store};
 ghost use Rattle.model.specs.Device.{pages};
 ghost use Rattle.calls.specs.Collection.{valid, usedBlock};
-ghost use Rattle.spare.specs.Read.{numbersOf};
+ghost use Rattle.front.specs.Read.{numbersOf};
 ghost use Rattle.state.specs.Reading.{readState};
 ghost use Rattle.state.specs.Shaped.{countOf, Passed};
 ghost use Rattle.collection.specs.Tally.{tallyAt, tallyOf};

@@ -8,9 +8,12 @@ use Rattle.calls.specs.Refusals.{refusalNumber}
 use Rattle.calls.specs.Outcome.{Answer, formatted, flushed, found, notWritten, discarded, collected, compacted, agreed, listed, refused}
 use Rattle.calls.specs.History.{Call}
 use Rattle.calls.specs.Bounds.{Bounded}
+use Rattle.plain.specs.Calls.{Common}
 use Rattle.state.specs.Ran.{Slices}
-use Rattle.export.specs.Packing.{bit20, bit40, bit56, bit60, packed, Packs}
 use Rattle.state.proofs.Bounds.{ran-bounded}
+use Rattle.plainstate.specs.Ran as plain
+use Rattle.plainstate.proofs.Bounds as plainly
+use Rattle.export.specs.Packing.{bit20, bit40, bit56, bit60, packed, Packs, pageAlone, PlainPacks}
 
 -- The fields of a number, from the highest down.
 pub record Fields (r refusal found third second first : ℕ) : Type 0 where
@@ -55,3 +58,22 @@ answer-unpacked (refused x) h = unpacks (refusalNumber x) 0 0 0 0 _ (omega arith
 -- Whatever a call exported answers, its fields are those of document 01's answer.
 pub unpacked : {c : Call} {state spare : List ℕ} {r : ℕ} {left : Slices} → (p : Packs c state spare r left) → Unpacked r (p .answer)
 unpacked p = subst (λ (n : ℕ). Unpacked n (p .answer)) (sym (p .is)) (answer-unpacked (p .answer) (ran-bounded (p .ran)))
+
+bounded-alone : (a : Answer) → Bounded a → Bounded (pageAlone a)
+unfolding pageAlone Bounded
+bounded-alone formatted h = h
+bounded-alone (flushed p n) h = h
+bounded-alone (found p q n) h = (h .0, omega arith, omega arith)
+bounded-alone (notWritten n) h = omega arith
+bounded-alone discarded h = h
+bounded-alone (collected p n e) h = h
+bounded-alone (compacted n) h = h
+bounded-alone (agreed t) h = h
+bounded-alone (listed n) h = h
+bounded-alone (refused r) h = h
+
+-- So are those of a call of the plain engine, but for the predicted page and the levels, which it hasn't.
+pub plain-unpacked : {c : Common} {state : List ℕ} {r : ℕ} {left : plain.Slices} → (p : PlainPacks c state r left) → Unpacked r (pageAlone (p .answer))
+plain-unpacked p =
+    subst (λ (n : ℕ). Unpacked n (pageAlone (p .answer))) (sym (p .is))
+    (answer-unpacked (pageAlone (p .answer)) (bounded-alone (p .answer) (plainly.ran-bounded (p .ran))))

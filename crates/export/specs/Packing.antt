@@ -9,6 +9,9 @@ use Rattle.calls.specs.Refusals.{refusalNumber}
 use Rattle.calls.specs.Outcome.{Answer, formatted, flushed, found, notWritten, discarded, collected, compacted, agreed, listed, refused}
 use Rattle.calls.specs.History.{Call}
 use Rattle.state.specs.Ran.{Slices, Ran}
+use Rattle.plain.specs.Table.{tableLength}
+use Rattle.plain.specs.Calls.{Common}
+use Rattle.plainstate.specs.Ran as plain
 
 -- The places of the fields behind the first.
 abbrev pub bit20 : ℕ
@@ -43,6 +46,25 @@ pub record Packs (c : Call) (state spare : List ℕ) (r : ℕ) (left : Slices) :
   pub ran : Ran c state spare answer left
   pub is : r ≡ packed answer
 
+-- "predicted pages and level counts belong to the learned one only": an answer of the plain engine as it is packed
+unfoldable pub pageAlone : Answer → Answer
+pageAlone formatted = formatted
+pageAlone (flushed p n) = flushed p n
+pageAlone (found p q n) = found p 0 0
+pageAlone (notWritten n) = notWritten 0
+pageAlone discarded = discarded
+pageAlone (collected p n e) = collected p n e
+pageAlone (compacted n) = compacted n
+pageAlone (agreed t) = agreed t
+pageAlone (listed n) = listed n
+pageAlone (refused r) = refused r
+
+-- What an exported call of the plain engine promises: it ran as document 02 says, and r is its answer's number.
+pub record PlainPacks (c : Common) (state : List ℕ) (r : ℕ) (left : plain.Slices) : Type 0 where
+  pub answer : Answer
+  pub ran : plain.Ran c state answer left
+  pub is : r ≡ packed (pageAlone answer)
+
 -- A length that device numbers give; 0 where they are outside their limits.
 unfoldable pub whereWithin : Device → ℕ → ℕ
 whereWithin d n = elim (withinLimits d) [ true ↦ n | false ↦ 0 ]
@@ -52,3 +74,6 @@ stateLen d = whereWithin d (stateLength d)
 
 unfoldable pub spareLen : Device → ℕ
 spareLen d = whereWithin d (spareLength d)
+
+unfoldable pub plainStateLen : Device → ℕ
+plainStateLen d = whereWithin d (tableLength d)

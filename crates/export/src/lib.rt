@@ -3,12 +3,13 @@ mod pack;
 
 use collection::collect::collect;
 use flush::flush;
+use front::Numbers;
+use front::device::within_limits;
 use lookup::agree::agree;
 use lookup::list::list;
 use lookup::lookup::lookup;
-use spare::Numbers;
+use plainstate::places::table_len;
 use state::numbers::state_len;
-use state::numbers::within_limits;
 use upkeep::compact::compact;
 use upkeep::discard::discard;
 use upkeep::format::format;
@@ -16,10 +17,13 @@ ghost use mathlib.Core.Path.{_≡_};
 ghost use mathlib.Core.List.{List, []};
 ghost use Prim.Native.Nat.{ℕ};
 ghost use Rattle.calls.specs.History.{formatCall, flushCall, lookupCall, discardCall, collectCall, compactCall, agreeCall, listCall};
-ghost use Rattle.state.specs.Reading.{numbersAt, readState};
+ghost use Rattle.plain.specs.Calls as plain;
+ghost use Rattle.front.specs.Reading.{numbersAt};
+ghost use Rattle.state.specs.Reading.{readState};
 ghost use Rattle.state.specs.Outside.{SameOutside};
 ghost use Rattle.state.specs.Ran.{deviceSlices, listingSlices};
-ghost use Rattle.export.specs.Packing.{Packs, stateLen, spareLen};
+ghost use Rattle.plainstate.specs.Ran.{stateSlices};
+ghost use Rattle.export.specs.Packing.{Packs, PlainPacks, stateLen, spareLen, plainStateLen};
 
 // The length of the state, in bytes; 0 where the numbers are outside their limits.
 #[no_mangle]
@@ -137,4 +141,62 @@ pub extern "C" fn hedjosur_list(state: &[u8], group: u32, out: &mut [u8]) -> u64
         (listingSlices (now (state .entry)) spare (now (out .exit)))) ⌝ }
 {
     pack::list(list(state, group, out))
+}
+
+// The plain engine: the length of its state, in bytes; 0 where the numbers are outside their limits.
+#[no_mangle]
+pub extern "C" fn hedjosur_plain_state_len(m: u32, b: u32, n: u32, g: u32) -> u64
+    ensures { λ r. ⌜ r ≡ plainStateLen (record { M = m; B = b; N = n; g = g }) ⌝ }
+{
+    let d = Numbers { m, b, n, g };
+    if !within_limits(d) {
+        return 0;
+    }
+    table_len(d) as u64
+}
+
+// Its format: 0.
+#[no_mangle]
+pub extern "C" fn hedjosur_plain_format(m: u32, b: u32, n: u32, g: u32, state: &mut [u8]) -> u64
+    ensures { λ r. ⌜ PlainPacks (plain.format (record { M = m; B = b; N = n; g = g })) (now (state .entry)) r (stateSlices (now (state .exit))) ⌝ }
+{
+    pack::format(plaincalls::format::format(m, b, n, g, state))
+}
+
+// Its flush: count × 2^20 + first page.
+#[no_mangle]
+pub extern "C" fn hedjosur_plain_flush(state: &mut [u8], batch: &[u32], plan: &mut [u32]) -> u64
+    ensures { λ r. ⌜ PlainPacks (plain.flush (now (batch .entry)) (now (plan .entry))) (now (state .entry)) r
+        (record { state = now (state .exit); plan = now (plan .exit); erased = [] }) ⌝ }
+{
+    pack::flush(plaincalls::flush::flush(state, batch, plan))
+}
+
+// Its lookup: found × 2^56 + page.
+#[no_mangle]
+pub extern "C" fn hedjosur_plain_lookup(state: &[u8], page: u32) -> u64
+    ensures { λ r. ⌜ PlainPacks (plain.lookup page) (now (state .entry)) r (stateSlices (now (state .entry))) ⌝ }
+{
+    pack::plain_lookup(plaincalls::lookup::lookup(state, page))
+}
+
+// Its discard: 0.
+#[no_mangle]
+pub extern "C" fn hedjosur_plain_discard(state: &mut [u8], page: u32) -> u64
+    ensures { λ r. ⌜ PlainPacks (plain.discard page) (now (state .entry)) r (stateSlices (now (state .exit))) ⌝ }
+{
+    pack::discard(plaincalls::discard::discard(state, page))
+}
+
+// Its collection: blocks erased × 2^40 + count × 2^20 + first page.
+#[no_mangle]
+pub extern "C" fn hedjosur_plain_collect(
+    state: &mut [u8],
+    plan: &mut [u32],
+    erased: &mut [u32],
+) -> u64
+    ensures { λ r. ⌜ PlainPacks (plain.collect (now (plan .entry)) (now (erased .entry))) (now (state .entry)) r
+        (record { state = now (state .exit); plan = now (plan .exit); erased = now (erased .exit) }) ⌝ }
+{
+    pack::collect(plaincalls::collect::collect(state, plan, erased))
 }

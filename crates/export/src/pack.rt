@@ -1,19 +1,20 @@
 // A call's answer as one number: `refusal × 2^60 + …`.
-use state::answers::Agreed;
-use state::answers::Collected;
-use state::answers::Compacted;
-use state::answers::Discarded;
-use state::answers::Flushed;
-use state::answers::Formatted;
-use state::answers::Listed;
-use state::answers::Lookup;
-use state::answers::Refusal;
-use state::answers::number;
+use answers::Agreed;
+use answers::Collected;
+use answers::Compacted;
+use answers::Discarded;
+use answers::Flushed;
+use answers::Formatted;
+use answers::Listed;
+use answers::Lookup;
+use answers::PlainLookup;
+use answers::Refusal;
+use answers::number;
 ghost use mathlib.Core.Path.{_≡_};
 ghost use Rattle.calls.specs.Outcome.{refused};
 ghost use Rattle.calls.specs.Bounds.{Bounded};
-ghost use Rattle.state.specs.Answers.{refusalOf, formatAnswer, flushAnswer, lookupAnswer, discardAnswer, collectAnswer, compactAnswer, agreeAnswer, listAnswer};
-ghost use Rattle.export.specs.Packing.{packed};
+ghost use Rattle.answers.specs.Answers.{refusalOf, formatAnswer, flushAnswer, lookupAnswer, plainLookupAnswer, discardAnswer, collectAnswer, compactAnswer, agreeAnswer, listAnswer};
+ghost use Rattle.export.specs.Packing.{packed, pageAlone};
 
 // The places of the fields behind the first.
 const BIT20: u64 = 1048576;
@@ -59,6 +60,17 @@ pub fn lookup(a: Lookup) -> u64
         }
         Lookup::NotWritten(n) => (n as u64) * BIT40,
         Lookup::Refused(r) => refused(r),
+    }
+}
+
+// The plain engine's has the page alone.
+pub fn plain_lookup(a: PlainLookup) -> u64
+    ensures { λ n. ⌜ n ≡ packed (pageAlone (plainLookupAnswer a)) ⌝ }
+{
+    match a {
+        PlainLookup::Found(p) => BIT56 + (p as u64),
+        PlainLookup::NotWritten => 0,
+        PlainLookup::Refused(r) => refused(r),
     }
 }
 

@@ -1,4 +1,3 @@
-pub mod Batches
 pub mod Sorted
 pub mod Checking
 pub mod Flushing

@@ -6,28 +6,20 @@ use Prim.Native.Nat.{ℕ, _≤_}
 use native.Mathlib.Omega.{arith}
 use lib.Dec.{ltb}
 use lib.ListN.{length}
-use borrow.Author.Tests.{ltb-true, lt-ltb}
 use Rattle.model.specs.Lists.{all, ascending, store}
 use Rattle.model.specs.Device.{Device}
 use Rattle.model.specs.Spare.{programBlock}
 use Rattle.model.specs.Learning.{Write, sorted, logicals, sources}
 use Rattle.model.specs.State.{State}
-use Rattle.model.proofs.Lists.{of-asc, all-each, each-all}
-use Rattle.model.proofs.Sorting.{sorted-asc, sorted-elem, logicals-length, sorted-length}
+use Rattle.model.proofs.Lists.{of-asc}
+use Rattle.model.proofs.Sorting.{sorted-asc, logicals-length, sorted-length}
 use Rattle.calls.specs.Flush.{writeState}
+use Rattle.sorting.proofs.Batches.{sorted-below}
 use Rattle.flush.specs.Written.{Admitted, Written}
 
--- Pages below n are below any greater number.
-pub below-more : (n m : ℕ) (l : List ℕ) → n ≤ m → all (λ x. ltb x n) l ≡ true → all (λ x. ltb x m) l ≡ true
-below-more n m l h a = all-each (λ x. ltb x m) l (λ x e. lt-ltb x m (omega (arith, ltb-true x n (each-all (λ y. ltb y n) l a x e))))
-
--- The sorted batch ascends, and has the batch's logical pages.
+-- The sorted batch ascends.
 sorted-ascends : (batch : List ℕ) → ascending (logicals (sorted batch)) ≡ true
 sorted-ascends batch = of-asc (logicals (sorted batch)) (sorted-asc batch)
-
-sorted-below : (batch : List ℕ) (n : ℕ) → all (λ x. ltb x n) batch ≡ true → all (λ x. ltb x n) (logicals (sorted batch)) ≡ true
-sorted-below batch n h =
-    all-each (λ x. ltb x n) (logicals (sorted batch)) (λ x e. each-all (λ y. ltb y n) batch h x (sym (sorted-elem x batch) ∙ e))
 
 -- Pages that are the sorted batch's.
 module _ (batch ps : List ℕ) (named : ps ≡ logicals (sorted batch)) where

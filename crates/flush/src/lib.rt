@@ -1,43 +1,30 @@
 // Flush: a batch goes to the lowest-numbered free block.
+use answers::Flushed;
+use answers::Opened;
+use answers::Refusal;
+use front::Numbers;
+use front::counts::free_count;
+use front::counts::lowest_free;
 use sorting::order::all_below;
 use sorting::order::ascends;
+use sorting::order::wrong_size;
 use sorting::sort::number;
 use sorting::sort::sort_any;
-use spare::Numbers;
-use state::answers::Flushed;
-use state::answers::Refusal;
-use state::counts::free_count;
-use state::counts::lowest_free;
 use state::groups::sound;
 use state::marks::unmark_all;
-use state::opening::Opened;
 use state::opening::open_with_spare;
 use writing::block::write_block;
 ghost use mathlib.Core.Path.{_≡_};
-ghost use mathlib.Core.Bool.{_||_};
 ghost use mathlib.Core.List.{[]};
 ghost use Prim.Native.Nat.{_<_};
-ghost use lib.Dec.{ltb};
-ghost use lib.ListN.{length};
-ghost use Rattle.model.specs.Sound.{isEmpty};
 ghost use Rattle.calls.specs.Flush.{flushChecks};
 ghost use Rattle.calls.specs.History.{flushCall, lend};
-ghost use Rattle.spare.specs.Read.{numbersOf};
+ghost use Rattle.front.specs.Read.{numbersOf};
+ghost use Rattle.answers.specs.Answers.{flushAnswer};
+ghost use Rattle.answers.specs.Opening.{verdict, verdictOf};
 ghost use Rattle.state.specs.Reading.{readState};
-ghost use Rattle.state.specs.Answers.{flushAnswer};
-ghost use Rattle.state.specs.Opening.{verdict, verdictOf};
 ghost use Rattle.state.specs.Ran.{Ran};
 ghost use Rattle.flush.specs.Written.{Admitted, Written, BatchWritten};
-
-// Whether the size is wrong: "5, batch empty or longer than B".
-fn wrong_size(batch: &[u32], b: u32) -> bool
-    ensures { λ r. ⌜ r ≡ (isEmpty (now (batch .entry)) || ltb b (length (now (batch .entry)))) ⌝ }
-{
-    if batch.len() == 0 {
-        return true;
-    }
-    (b as usize) < batch.len()
-}
 
 // The device numbers where the flush is not refused, else its refusal: 1, 2, 3, 5, 4, 6, the first that applies.
 fn check(state: &[u8], spare: &[u32], batch: &[u32], plan: &[u32]) -> Opened

@@ -8,7 +8,8 @@ use borrow.Author.Tests.{ne-eqb, lt-ltb, le-ltb}
 use lib.ListN.{length, getD, set, take, drop, length-set, drop-of-length-le}
 use lib.Seq.{length-take-le, take-suc-set, drop-cons}
 use Rattle.bytes.specs.Little.{le16, le32}
-use Rattle.state.specs.Reading.{numbersAt, readState}
+use Rattle.front.specs.Reading.{numbersAt}
+use Rattle.state.specs.Reading.{readState}
 use Rattle.model.specs.Sound.{isEmpty}
 use Rattle.listing.specs.declared.session.Turn.{Turn}
 use Rattle.listing.specs.declared.session.Cursor.{Cursor}

@@ -35,9 +35,9 @@ use Rattle.calls.specs.History.{Call, compactCall, listCall, lend, lentTo, chec
 use Rattle.calls.specs.Bounds.{Bounded}
 use Rattle.calls.proofs.Decided.{Decided, refuses, accepts, decided}
 use Rattle.calls.proofs.Refusing.{right-length, clears}
-use Rattle.state.specs.declared.answers.Listed.{Listed}
-use Rattle.state.specs.declared.answers.Listed.the-variants as code
-use Rattle.state.specs.Answers.{refusalOf, listAnswer}
+use Rattle.answers.specs.declared.Listed.{Listed}
+use Rattle.answers.specs.declared.Listed.the-variants as code
+use Rattle.answers.specs.Answers.{refusalOf, listAnswer}
 use Rattle.state.specs.Reading.{readState}
 use Rattle.state.specs.Ran.{Slices, listingSlices, Ran}
 use Rattle.state.proofs.Bounds.{ran-bounded}

@@ -10,6 +10,7 @@ use lib.ListN.{getD}
 use mir.Syntax.{w32}
 use mir.Val.{SFits, toZ}
 use Rattle.bytes.specs.Little.{le32, signed32, le32s}
+use Rattle.front.specs.Tables.{listFrom}
 use Rattle.record.specs.Coding.{recordAt}
 use Rattle.model.specs.Record.{Record}
 use Rattle.model.specs.Levels.{Group}
@@ -17,7 +18,7 @@ use Rattle.model.specs.State.{groupAt}
 use Rattle.group.specs.Layout.{slotPlace, slotRecord, slotOf, slotsFrom, slotsOf, ownerOf}
 use Rattle.group.specs.Cutting.{Placed, front, behind, cut}
 use Rattle.group.specs.Reading.{placedOf, groupOr, encodes, readGroup}
-use Rattle.state.specs.Regions.{listFrom, readRegion}
+use Rattle.state.specs.Regions.{readRegion}
 use Rattle.state.specs.Reading.{readState}
 use Rattle.listing.proofs.Each.{Each, none, more}
 

@@ -12,11 +12,11 @@ use Rattle.model.proofs.Bools.{is-false, and-r}
 use Rattle.calls.specs.Lookup as calls
 use Rattle.calls.specs.Collection.{gives}
 use Rattle.calls.specs.Agreement.{eachBelow, isNowhere, isNamed, alike}
-use Rattle.state.specs.declared.answers.Refusal.{Refusal}
-use Rattle.state.specs.declared.answers.Lookup.{Lookup}
-use Rattle.state.specs.declared.answers.Lookup.the-variants.{Found, NotWritten, Refused}
-use Rattle.state.specs.Answers.{asLooked}
-use Rattle.state.proofs.answers.Lookup.{the-type}
+use Rattle.answers.specs.declared.Refusal.{Refusal}
+use Rattle.answers.specs.declared.Lookup.{Lookup}
+use Rattle.answers.specs.declared.Lookup.the-variants.{Found, NotWritten, Refused}
+use Rattle.answers.specs.Answers.{asLooked}
+use Rattle.answers.proofs.Lookup.{the-type}
 
 -- the place of a variant in its enum, by which a pattern tells them apart
 abbrev pub variant : Lookup → ℕ

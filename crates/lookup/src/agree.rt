@@ -1,11 +1,11 @@
 // Agreement of two states, each with its spare area.
 use crate::alike::compare;
 use crate::alike::is_named;
-use spare::Numbers;
-use state::answers::Agreed;
-use state::answers::Refusal;
+use answers::Agreed;
+use answers::Opened;
+use answers::Refusal;
+use front::Numbers;
 use state::groups::sound;
-use state::opening::Opened;
 use state::opening::open_with_spare;
 use state::seek::seek;
 ghost use mathlib.Core.Path.{_≡_};
@@ -13,11 +13,11 @@ ghost use mathlib.Core.List.{List};
 ghost use Prim.Native.Nat.{ℕ};
 ghost use Rattle.calls.specs.Agreement.{soundChecks, allNamed};
 ghost use Rattle.calls.specs.History.{agreeCall};
-ghost use Rattle.spare.specs.Read.{numbersOf};
+ghost use Rattle.front.specs.Read.{numbersOf};
+ghost use Rattle.answers.specs.Answers.{agreeAnswer};
+ghost use Rattle.answers.specs.Opening.{verdict, verdictOf};
 ghost use Rattle.state.specs.Reading.{readState};
 ghost use Rattle.state.specs.Shaped.{Passed};
-ghost use Rattle.state.specs.Answers.{agreeAnswer};
-ghost use Rattle.state.specs.Opening.{verdict, verdictOf};
 ghost use Rattle.state.specs.Ran.{deviceSlices, Ran};
 
 // The device numbers of a sound state with its spare area, or the refusal: 1, 2 or 3.

@@ -1,15 +1,15 @@
 // Lookups compared: whether they found a page, and whether two states' lookups give the same.
-use spare::Numbers;
-use state::answers::Agreed;
-use state::answers::Lookup;
-use state::answers::Refusal;
+use answers::Agreed;
+use answers::Lookup;
+use answers::Refusal;
+use front::Numbers;
 use state::seek::seek;
 ghost use mathlib.Core.Path.{_≡_};
 ghost use Rattle.calls.specs.Agreement.{isNowhere, isNamed, alike};
-ghost use Rattle.spare.specs.Read.{numbersOf};
+ghost use Rattle.front.specs.Read.{numbersOf};
+ghost use Rattle.answers.specs.Answers.{asLooked, agreeAnswer};
 ghost use Rattle.state.specs.Reading.{readState};
 ghost use Rattle.state.specs.Shaped.{Passed};
-ghost use Rattle.state.specs.Answers.{asLooked, agreeAnswer};
 ghost use Rattle.lookup.specs.Agreeing.{compared};
 
 // Whether a lookup says 'not written'.

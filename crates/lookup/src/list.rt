@@ -1,13 +1,13 @@
 // Listing a group: its records with their levels, ten bytes each, in a lent slice.
+use answers::Listed;
+use answers::Opened;
+use answers::Refusal;
+use front::Numbers;
 use group::Slot;
-use spare::Numbers;
-use state::answers::Listed;
-use state::answers::Refusal;
 use state::groups::group_sound;
 use state::numbers::group_count;
 use state::numbers::group_end;
 use state::numbers::group_place;
-use state::opening::Opened;
 use state::opening::open_state;
 ghost use mathlib.Core.Path.{_≡_};
 ghost use mathlib.Core.List.{List, map, flatten};
@@ -19,7 +19,8 @@ ghost use Rattle.model.specs.Device.{groupCount};
 ghost use Rattle.model.specs.Levels.{recordCount};
 ghost use Rattle.model.specs.State.{groupAt};
 ghost use Rattle.model.specs.Sound.{soundGroup};
-ghost use Rattle.spare.specs.Read.{numbersOf};
+ghost use Rattle.front.specs.Read.{numbersOf};
+ghost use Rattle.answers.specs.Answers.{listAnswer};
 ghost use Rattle.group.specs.Layout.{slotsOf};
 ghost use Rattle.slots.specs.Coding.{ten, InTen};
 ghost use Rattle.slots.specs.View.{Room};
@@ -27,7 +28,6 @@ ghost use Rattle.state.specs.Reading.{readState};
 ghost use Rattle.state.specs.Shaped.{Shaped};
 ghost use Rattle.calls.specs.Listing.{groupBytes, listingLength};
 ghost use Rattle.calls.specs.History.{listCall};
-ghost use Rattle.state.specs.Answers.{listAnswer};
 ghost use Rattle.state.specs.Ran.{listingSlices, Ran};
 
 // The length of `out`: ten bytes for each of 512 records.

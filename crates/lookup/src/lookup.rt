@@ -1,10 +1,10 @@
 // Lookup: from a logical page to the page that holds it.
-use state::answers::Lookup;
-use state::opening::Opened;
+use answers::Lookup;
+use answers::Opened;
 use state::opening::open_page;
 use state::seek::seek;
 ghost use Rattle.calls.specs.History.{lookupCall};
-ghost use Rattle.state.specs.Answers.{lookupAnswer};
+ghost use Rattle.answers.specs.Answers.{lookupAnswer};
 ghost use Rattle.state.specs.Ran.{deviceSlices, Ran};
 
 // Document 01's lookup.

@@ -1,13 +1,13 @@
 // A block's spare entries written in one pass, stopped anywhere.
 use crate::OUTSIDE;
-use spare::Numbers;
+use front::Numbers;
+use front::device::within_limits;
 use spare::entries_per_block;
 use spare::program_block;
 use spare::spare_len;
-use state::numbers::within_limits;
 ghost use mathlib.Core.Path.{_≡_};
 ghost use lib.ListN.{length};
-ghost use Rattle.spare.specs.Read.{numbersOf};
+ghost use Rattle.front.specs.Read.{numbersOf};
 ghost use Rattle.probe.specs.Passes.{programmable, Programs};
 
 // Whether a pass over block k can be made with l spare entries, p written pages and this stop.

@@ -13,3 +13,4 @@ pub mod Ranks
 pub mod ByDigits
 pub mod Counting
 pub mod Scattering
+pub mod Batches

@@ -2,6 +2,7 @@
 // after the erase, and a lookup reads from it which page holds a logical page. A block is erased and programmed in one pass
 // (document 02, c), which writes each of its entries a single time and may be stopped after any. By its functions a caller can't
 // program without an erase: of those that program, `program_block` alone is public, and its pass is erase and programming.
+use front::Numbers;
 ghost use mathlib.Core.Path.{_≡_};
 ghost use mathlib.Core.Bool.{true};
 ghost use Prim.Native.Nat.{_+_, _*_, _-_, _≤_, _<_};
@@ -9,16 +10,9 @@ ghost use lib.ListN.{length, take, drop, replicate};
 ghost use Rattle.model.specs.Lists.{store};
 ghost use Rattle.model.specs.Device.{withinLimits, pages, namesPerPage, entriesPerPage, entriesPerBlock, spareLength};
 ghost use Rattle.model.specs.Spare.{nobody, entry, middle, erase, passBlock, Stopped, names, lowestNaming, pageNamed};
-ghost use Rattle.spare.specs.Read.{numbersOf, namedOf};
+ghost use Rattle.front.specs.Read.{numbersOf};
+ghost use Rattle.spare.specs.Read.{namedOf};
 ghost use Rattle.spare.specs.Around.{Programmed};
-
-// The device numbers: m blocks of b pages, n logical pages, the error bound g.
-pub struct Numbers {
-    pub m: u32,
-    pub b: u32,
-    pub n: u32,
-    pub g: u32,
-}
 
 // The page that holds a logical page, or that no entry names it.
 pub enum Named {

@@ -6,12 +6,10 @@ use Rattle.calls.specs.Outcome.{Answer}
 use Rattle.calls.specs.History.{Call}
 use Rattle.calls.specs.Bounds.{Bounded}
 use Rattle.calls.proofs.Bounds.{run-bounded}
-use Rattle.model.specs.Device.{regions}
-use Rattle.state.specs.Regions.{readRegion}
+use Rattle.front.proofs.CountsRead.{length-read}
 use Rattle.state.specs.Reading.{readState}
 use Rattle.state.specs.Ran.{Slices, Ran}
-use Rattle.state.proofs.Tables.{length-from}
 
 pub ran-bounded : {c : Call} {state spare : List ℕ} {a : Answer} {left : Slices} → Ran c state spare a left → Bounded a
-unfolding readState readRegion regions
-ran-bounded {c} {state} {spare} r = subst (λ (a : Answer). Bounded a) (sym (r .answered)) (run-bounded c (readState state) spare (length-from _ 0 _))
+unfolding readState
+ran-bounded {c} {state} {spare} r = subst (λ (a : Answer). Bounded a) (sym (r .answered)) (run-bounded c (readState state) spare (length-read _ state))

@@ -15,10 +15,11 @@ use Rattle.model.specs.Sound.{soundGroup, soundGroups, soundState}
 use Rattle.model.proofs.Bools.{and-l}
 use Rattle.model.proofs.SoundGroups.{group-sound}
 use Rattle.bytes.proofs.Stores.{lent-back}
+use Rattle.front.specs.Reading.{numbersAt}
 use Rattle.group.specs.Reading.{encodes, readGroup, SoundBytes}
 use Rattle.group.proofs.Soundness.{sound-encodes}
 use Rattle.state.specs.Regions.{groupRegion, cell}
-use Rattle.state.specs.Reading.{numbersAt, groupPlace, readState}
+use Rattle.state.specs.Reading.{groupPlace, readState}
 use Rattle.state.specs.Outside.{SameOutside}
 use Rattle.state.specs.Shaped.{Shaped}
 use Rattle.state.proofs.Writers.{group-stored}

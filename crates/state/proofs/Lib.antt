@@ -1,11 +1,7 @@
 pub mod Places
-pub mod Within
-pub mod Head
-pub mod Tables
 pub mod Regions
 pub mod Shaping
 pub mod Writers
-pub mod Scanning
 pub mod Marking
 pub mod Handing
 pub mod Refusing

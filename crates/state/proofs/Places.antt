@@ -41,7 +41,7 @@ pub group-at : (d : Device) (k : ℕ) → groupPlace d k ≡ 16 + d .M * 2 + mar
 unfolding cellPlace placeAt regions regionsLength headLength countLength marksLength groupLength
 group-at d k = omega arith
 
-end-at : (d : Device) → stateLength d ≡ 16 + d .M * 2 + marksCount d + groupCount d * 5636
+pub end-at : (d : Device) → stateLength d ≡ 16 + d .M * 2 + marksCount d + groupCount d * 5636
 unfolding stateLength regions regionsLength headLength countLength marksLength groupLength
 end-at d = omega arith
 
@@ -52,8 +52,8 @@ pub group-small : (d : Device) (k : ℕ) → withinLimits d ≡ true → k ≤ g
 group-small d k h l = omega (arith, group-at d k, small d h .blocks, small d h .marks, small d h .groups)
 
 -- the place of a byte of the marks, from where the counts end
-pub marks-from : (d : Device) (k p : ℕ) → p ≡ countPlace d (d .M) → p + k ≡ marksPlace d k
-marks-from d k p e = omega (arith, e, count-at d (d .M), marks-at d k)
+pub marks-from : (d : Device) (k p : ℕ) → p ≡ 16 + 2 * d .M → p + k ≡ marksPlace d k
+marks-from d k p e = omega (arith, e, marks-at d k)
 
 -- a group's place, from where the marks end, which are n bytes
 pub group-from : (d : Device) (k n p : ℕ) → n ≡ marksCount d → p ≡ marksPlace d n → p + k * 5636 ≡ groupPlace d k

@@ -1,30 +1,22 @@
 -- The frame of a call: what is known behind its first checks, and what it has run where a check refuses it or none does. Assumes nothing.
-use mathlib.Core.Path.{_≡_, refl, sym, ap, _∙_}
+use mathlib.Core.Path.{_≡_, sym, ap, _∙_}
 use mathlib.Core.List.{List, [], _∷_}
-use mathlib.Core.Option.{Option, none, some}
+use mathlib.Core.Option.{none, some}
 use mathlib.Core.Bool.{true, false}
 use Prim.Native.Nat.{ℕ, _≤_, _<_}
-use native.Mathlib.Omega.{arith}
 use lib.Dec.{ltb}
 use lib.ListN.{length}
 use borrow.Author.Tests.{lt-ltb, le-ltb, eq-eqb, ne-eqb, eqb-true, not-false}
 use Rattle.model.specs.Device.{Device, withinLimits, headLength, spareLength, stateLength}
 use Rattle.model.specs.State.{State}
 use Rattle.model.proofs.Bools.{or-none}
-use Rattle.calls.specs.Refusals.{Refusal, badNumbers, badLength, Check, _when_, firstRefusal, numbersMissing, wrongState, wrongSpare, opening, openingWith}
+use Rattle.calls.specs.Refusals.{Refusal, badNumbers, badLength, _when_, firstRefusal, numbersMissing, wrongState, wrongSpare, opening, openingWith}
 use Rattle.calls.specs.Outcome.{Answer, refused, accepted, Outcome, outcome, unless}
 use Rattle.calls.specs.History.{Call, lentTo, checksOf, effect, run}
 use Rattle.calls.proofs.Decided.{unless-accepts}
 use Rattle.calls.proofs.Refusing.{stops, goes-on, clears, is-clear, others-decide, right-length, wrong-length, length-is}
-use Rattle.spare.specs.Read.{numbersOf}
-use Rattle.spare.specs.declared.Numbers.{Numbers}
 use Rattle.state.specs.Reading.{readState}
 use Rattle.state.specs.Shaped.{Shaped}
-use Rattle.state.specs.declared.answers.Refusal as code
-use Rattle.state.specs.declared.opening.Opened.{Opened}
-use Rattle.state.specs.declared.opening.Opened.the-variants as opened
-use Rattle.state.specs.Answers.{refusalOf}
-use Rattle.state.specs.Opening.{passes, refuses, verdictBy, verdict, verdictOf}
 use Rattle.state.specs.Ran.{Slices, asRead, Ran}
 
 -- A call that is refused: the answer, and nothing changed.
@@ -46,34 +38,6 @@ ran-accepted c state spare answer left f a l r =
       leaves = l ∙ sym (ap (λ (o : Outcome). o .after) q);
       refusedBytes = r;
     }
-
--- The code's answer to some checks is right ..
-module _ (cs : List Check) (numbers : Device) where
-  pub says-refused : {r : Refusal} → firstRefusal cs ≡ some r → refuses r ≡ verdict cs numbers
-  unfolding verdictBy
-  says-refused e = rw e
-
-  pub says-passed : {d : Device} → firstRefusal cs ≡ none → d ≡ numbers → passes d ≡ verdict cs numbers
-  unfolding verdictBy
-  says-passed e n = rw (e, n)
-
--- .. and this is what it says.
-module _ (cs : List Check) (numbers : Device) (o : Opened) (h : verdictOf o ≡ verdict cs numbers) where
-  pub refused-first : (r : code.Refusal) → o ≡ opened.Refused r → firstRefusal cs ≡ some (refusalOf r)
-  unfolding verdictOf verdictBy
-  refused-first r e = go (firstRefusal cs) (ap verdictOf (sym e) ∙ h)
-    where
-      go : (f : Option Refusal) → refuses (refusalOf r) ≡ verdictBy f numbers → f ≡ some (refusalOf r)
-      go none q = let z : _≡_ {A = ℕ} 0 1 = cc in absurd (omega arith)
-      go (some p) q = cc
-
-  pub passed-all : (d : Numbers) → o ≡ opened.Device d → (firstRefusal cs ≡ none) × (numbers ≡ numbersOf d)
-  unfolding verdictOf verdictBy
-  passed-all d e = go (firstRefusal cs) (ap verdictOf (sym e) ∙ h)
-    where
-      go : (f : Option Refusal) → passes (numbersOf d) ≡ verdictBy f numbers → (f ≡ none) × (numbers ≡ numbersOf d)
-      go none q = (refl, cc)
-      go (some p) q = let z : _≡_ {A = ℕ} 0 1 = cc in absurd (omega arith)
 
 -- A state that passes the checks on it alone has its shape ..
 pub opened-shape : (s : State) (d : Device) → firstRefusal (opening s) ≡ none → s .device ≡ d → Shaped d s

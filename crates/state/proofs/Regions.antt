@@ -2,28 +2,18 @@
 use mathlib.Core.Path.{_≡_, refl, sym, ap, _∙_}
 use mathlib.Core.List.{List, [], _∷_}
 use mathlib.Core.Logic.{_≢_, _⊎_, inl, inr}
-use mathlib.Core.Bool.{Bool, true, false}
 use Prim.Native.Nat.{ℕ, zero, suc, _+_, _*_, _≤_, _<_}
 use native.Mathlib.Omega.{arith}
 use native.Mathlib.Nat.{suc-mul, mul-le-mul-right}
-use lib.Dec.{ltb}
 use lib.ListN.{length, set, take, drop}
-use borrow.Author.Tests.{ltb-true, ltb-false}
 use Rattle.model.specs.Lists.{store}
 use Rattle.model.specs.Device.{Device, Region, regions, regionsLength, stateLength}
 use Rattle.model.proofs.Lists.{length-store}
 use Rattle.bytes.proofs.Stores.{store-all, part-store}
 use Rattle.bytes.proofs.Same.{Same, stored-below, stored-above, length-part, part-same}
-use Rattle.state.specs.Regions.{regionAt, placeAt, cellPlace, cell, listFrom, readRegion}
-use Rattle.state.proofs.Tables.{from-same, from-set}
-
--- below or above another number
-pub beside : (i k : ℕ) → i ≢ k → (i < k) ⊎ (k < i)
-beside i k n = go (ltb i k) refl
-  where
-    go : (t : Bool) → ltb i k ≡ t → (i < k) ⊎ (k < i)
-    go true e = inl (ltb-true i k e)
-    go false e = let l : k ≤ i = ltb-false i k e in inr (omega arith)
+use Rattle.front.specs.Tables.{listFrom}
+use Rattle.front.proofs.Tables.{beside, from-same, from-set}
+use Rattle.state.specs.Regions.{regionAt, placeAt, cellPlace, cell, readRegion}
 
 -- one cell behind the other
 pub cells-before : (k n w : ℕ) → k < n → k * w + w ≤ n * w

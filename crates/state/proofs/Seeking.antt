@@ -26,9 +26,9 @@ use Rattle.calls.proofs.Marked.{seek-marked, seek-unmarked}
 use Rattle.calls.proofs.Refusing.{none-some}
 use Rattle.record.specs.Read.{asRecord, bare, existing}
 use Rattle.record.specs.declared.Record as code
-use Rattle.state.specs.declared.answers.Lookup.{Lookup}
-use Rattle.state.specs.declared.answers.Lookup.the-variants as lookup
-use Rattle.state.specs.Answers.{lookupAnswer, asLooked}
+use Rattle.answers.specs.declared.Lookup.{Lookup}
+use Rattle.answers.specs.declared.Lookup.the-variants as lookup
+use Rattle.answers.specs.Answers.{lookupAnswer, asLooked}
 
 -- by the page that is predicted
 data Predicted (d : Device) (spare : List ℕ) (x n : ℕ) : Option ℕ → Looked → Type 0 where

@@ -1,21 +1,36 @@
 -- What is read from bytes whose numbers and length are known: the regions, and their cells. Assumes nothing.
 use mathlib.Core.Path.{_≡_, sym, ap, _∙_}
 use mathlib.Core.List.{List, []}
-use Prim.Native.Nat.{ℕ, _+_, _≤_, _<_}
+use mathlib.Core.Bool.{true}
+use Prim.Native.Nat.{ℕ, _+_, _*_, _≤_, _<_}
 use native.Mathlib.Omega.{arith}
 use lib.ListN.{length, getD}
-use Rattle.model.specs.Device.{Device, groupCount, marksCount, countLength, marksLength, groupLength, regions, stateLength}
+use Rattle.model.specs.Device.{Device, withinLimits, groupCount, marksCount, countLength, marksLength, groupLength, regions, stateLength}
 use Rattle.model.specs.Levels.{Group}
 use Rattle.model.specs.State.{State, withCounts, withMarks, withGroups, groupAt}
 use Rattle.bytes.specs.Little.{le16}
 use Rattle.bytes.proofs.Same.{part-at, length-part}
 use Rattle.bytes.proofs.ReadWrite.{le16-same}
+use Rattle.front.specs.Reading.{numbersAt, readCounts}
+use Rattle.front.proofs.Tables.{length-from, getD-from, from-same}
+use Rattle.front.proofs.CountsRead.{length-read}
 use Rattle.group.specs.Reading.{readGroup}
 use Rattle.state.specs.Regions.{countRegion, marksRegion, groupRegion, cell, readRegion}
-use Rattle.state.specs.Reading.{numbersAt, readCount, readMarks, countPlace, marksPlace, groupPlace, readState}
+use Rattle.state.specs.Reading.{readCount, readMarks, countPlace, marksPlace, groupPlace, readState}
 use Rattle.state.specs.Shaped.{Shaped, countOf}
-use Rattle.state.proofs.Tables.{length-from, getD-from}
+use Rattle.state.proofs.Places.{count-at, end-at}
 use Rattle.state.proofs.Regions.{cell-inside}
+
+-- The counts, which the front reads, are those of the table of regions.
+count-cell : (d : Device) (s : List ℕ) (k : ℕ) → le16 s (16 + 2 * k) ≡ readCount (cell d countRegion s k)
+unfolding readCount cell regions countLength
+count-cell d s k =
+    let e : 16 + 2 * k ≡ countPlace d k = omega (arith, count-at d k) in
+    ap (le16 s) e ∙ sym (le16-same (part-at 2 s (countPlace d k)))
+
+pub counts-region : (d : Device) (s : List ℕ) → readCounts d s ≡ readRegion readCount d countRegion s
+unfolding readCounts readRegion regions
+counts-region d s = from-same (λ k. le16 s (16 + 2 * k)) (λ k. readCount (cell d countRegion s k)) 0 (d .M) (λ k a l. count-cell d s k)
 
 module _ (d : Device) (s : List ℕ) (h : Shaped d (readState s)) where
   pub long : length s ≡ stateLength d
@@ -26,9 +41,13 @@ module _ (d : Device) (s : List ℕ) (h : Shaped d (readState s)) where
   unfolding readState
   numbers-are = h .numbers
 
-  pub counts-are : readState s .counts ≡ readRegion readCount d countRegion s
+  -- what the front's functions ask for
+  pub front-in : (16 + 2 * d .M ≤ length s) × (withinLimits d ≡ true)
+  front-in = (omega (arith, long, end-at d), h .limits)
+
+  pub counts-are : readState s .counts ≡ readCounts d s
   unfolding readState
-  counts-are = ap (λ (e : Device). readRegion readCount e countRegion s) numbers-are
+  counts-are = ap (λ (e : Device). readCounts e s) numbers-are
 
   pub marks-are : readState s .marks ≡ readRegion readMarks d marksRegion s
   unfolding readState
@@ -39,8 +58,7 @@ module _ (d : Device) (s : List ℕ) (h : Shaped d (readState s)) where
   groups-are = ap (λ (e : Device). readRegion readGroup e groupRegion s) numbers-are
 
   pub length-counts : length (readState s .counts) ≡ d .M
-  unfolding readRegion regions
-  length-counts = ap length counts-are ∙ length-from _ 0 (d .M)
+  length-counts = ap length counts-are ∙ length-read d s
 
   pub length-marks : length (readState s .marks) ≡ marksCount d
   unfolding readRegion regions
@@ -50,9 +68,9 @@ module _ (d : Device) (s : List ℕ) (h : Shaped d (readState s)) where
   unfolding readRegion regions
   length-groups = ap length groups-are ∙ length-from _ 0 (groupCount d)
 
-  count-is : (k : ℕ) → k < d .M → getD (readState s .counts) k 0 ≡ readCount (cell d countRegion s k)
-  unfolding readRegion regions
-  count-is k l = ap (λ (cs : List ℕ). getD cs k 0) counts-are ∙ getD-from (λ i. readCount (cell d countRegion s i)) (d .M) k 0 l
+  pub count-is : (k : ℕ) → getD (readCounts d s) k 0 ≡ countOf (readState s) k
+  unfolding countOf
+  count-is k = ap (λ (cs : List ℕ). getD cs k 0) (sym counts-are)
 
   marks-is : (k : ℕ) → k < marksCount d → getD (readState s .marks) k 0 ≡ readMarks (cell d marksRegion s k)
   unfolding readRegion regions
@@ -62,16 +80,7 @@ module _ (d : Device) (s : List ℕ) (h : Shaped d (readState s)) where
   unfolding groupAt readRegion regions
   group-is k l = ap (λ (gs : List Group). getD gs k []) groups-are ∙ getD-from (λ i. readGroup (cell d groupRegion s i)) (groupCount d) k [] l
 
-  -- a count's bytes lie in the state at its place, p
-  pub place-in : (k p : ℕ) → k < d .M → p ≡ countPlace d k → p + 2 ≤ length s
-  unfolding regions countLength
-  place-in k p l e = omega (arith, e, cell-inside d countRegion k l, long)
-
-  pub count-read : (k p r : ℕ) → k < d .M → p ≡ countPlace d k → r ≡ le16 s p → r ≡ countOf (readState s) k
-  unfolding countOf readCount cell regions countLength
-  count-read k p r l e f = f ∙ ap (le16 s) e ∙ sym (count-is k l ∙ le16-same (part-at 2 s (countPlace d k)))
-
-  -- so does a byte of the marks
+  -- a byte of the marks lies in the state at its place, p
   pub marks-in : (k p : ℕ) → k < marksCount d → p ≡ marksPlace d k → p < length s
   unfolding regions marksLength
   marks-in k p l e = omega (arith, e, cell-inside d marksRegion k l, long)

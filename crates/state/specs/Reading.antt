@@ -1,18 +1,15 @@
--- docs/LAYOUT.md: how the state's bytes are read: the device numbers, then each region by its reader. Assumes nothing.
+-- docs/LAYOUT.md: how the state's bytes are read: the front, then the marks and the groups, each region by its reader. Assumes nothing.
 use mathlib.Core.List.{List}
 use Prim.Native.Nat.{ℕ}
 use lib.ListN.{length, getD}
 use Rattle.model.specs.Device.{Device}
 use Rattle.model.specs.State.{State}
-use Rattle.bytes.specs.Little.{le16, le32}
+use Rattle.bytes.specs.Little.{le16}
+use Rattle.front.specs.Reading.{numbersAt, readCounts}
 use Rattle.group.specs.Reading.{readGroup}
 use Rattle.state.specs.Regions.{countRegion, marksRegion, groupRegion, cellPlace, readRegion}
 
--- "M, B, N, g, each 4 bytes"
-unfoldable pub numbersAt : List ℕ → Device
-numbersAt b = record { M = le32 b 0; B = le32 b 4; N = le32 b 8; g = le32 b 12 }
-
--- a block's count of written pages, "2 bytes"
+-- a block's count of written pages, "2 bytes": of its region's cells it is what the front reads (crates/state/proofs, Shaping.antt)
 unfoldable pub readCount : List ℕ → ℕ
 readCount c = le16 c 0
 
@@ -36,7 +33,7 @@ unfoldable pub readState : List ℕ → State
 readState b = record {
   bytes = length b;
   device = numbersAt b;
-  counts = readRegion readCount (numbersAt b) countRegion b;
+  counts = readCounts (numbersAt b) b;
   marks = readRegion readMarks (numbersAt b) marksRegion b;
   groups = readRegion readGroup (numbersAt b) groupRegion b;
 }

@@ -1,8 +1,9 @@
 -- docs/LAYOUT.md: where a region of the state begins, and the bytes of its cells. Assumes nothing.
-use Prim.Native.Nat.{ℕ, zero, suc, _+_, _*_}
-use mathlib.Core.List.{List, [], _∷_}
+use Prim.Native.Nat.{ℕ, _+_, _*_}
+use mathlib.Core.List.{List}
 use lib.ListN.{getD, take, drop}
 use Rattle.model.specs.Device.{Device, Region, regions, regionsLength}
+use Rattle.front.specs.Tables.{listFrom}
 
 -- the regions by their place in the table `regions`, whose first is the device numbers
 abbrev pub countRegion : ℕ
@@ -29,11 +30,6 @@ cellPlace d r k = placeAt (regions d) r + k * regionAt (regions d) r .width
 -- the cell's bytes
 unfoldable pub cell : Device → ℕ → List ℕ → ℕ → List ℕ
 cell d r b k = take (regionAt (regions d) r .width) (drop (cellPlace d r k) b)
-
--- f k, f (k + 1), .., n of them
-unfoldable pub listFrom : {A : Type 0} → (ℕ → A) → ℕ → ℕ → List A
-listFrom f k zero = []
-listFrom f k (suc n) = f k ∷ listFrom f (suc k) n
 
 -- a region is read cell by cell
 unfoldable pub readRegion : {A : Type 0} → (List ℕ → A) → Device → ℕ → List ℕ → List A

@@ -1,10 +1,10 @@
 // The groups: each one's bytes are a part that starts in the middle of the state, handed on.
-use crate::counts::counts_sound;
 use crate::numbers::group_count;
 use crate::numbers::group_end;
 use crate::numbers::group_place;
+use front::Numbers;
+use front::counts::counts_sound;
 use group::Hit;
-use spare::Numbers;
 ghost use mathlib.Core.Path.{_≡_};
 ghost use mathlib.Core.Bool.{true};
 ghost use mathlib.Core.Option.{Option·map};
@@ -13,7 +13,7 @@ ghost use Rattle.model.specs.Device.{groupCount};
 ghost use Rattle.model.specs.Levels.{listing, holder, levelsTo};
 ghost use Rattle.model.specs.State.{groupAt};
 ghost use Rattle.model.specs.Sound.{soundGroup, soundGroups, soundState};
-ghost use Rattle.spare.specs.Read.{numbersOf};
+ghost use Rattle.front.specs.Read.{numbersOf};
 ghost use Rattle.record.specs.Read.{bare};
 ghost use Rattle.group.specs.Answers.{foundOf, lookedOf};
 ghost use Rattle.state.specs.Reading.{readState};

@@ -1,6 +1,5 @@
 // The state's bytes: the device numbers, the blocks' counts, the marks of discarded logical pages, the groups; how a call opens them,
-// what it answers, and the lookup that several calls make.
-pub mod answers;
+// and the lookup that several calls make.
 pub mod counts;
 pub mod groups;
 pub mod marks;

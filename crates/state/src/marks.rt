@@ -1,6 +1,6 @@
 // The marks of discarded logical pages: a bit for each, in bytes, lowest bit first.
 use crate::numbers::marks_place;
-use spare::Numbers;
+use front::Numbers;
 ghost use mathlib.Core.Path.{_≡_};
 ghost use mathlib.Core.Bool.{true, false};
 ghost use Prim.Native.Nat.{_≤_, _<_};
@@ -11,7 +11,7 @@ ghost use Rattle.model.specs.Device.{marksCount};
 ghost use Rattle.model.specs.Marks.{isMarked, mark, unmark, unmarkAll};
 ghost use Rattle.model.specs.State.{withMarks};
 ghost use Rattle.calls.specs.Flush.{clearMarks};
-ghost use Rattle.spare.specs.Read.{numbersOf};
+ghost use Rattle.front.specs.Read.{numbersOf};
 ghost use Rattle.state.specs.Reading.{readState};
 ghost use Rattle.state.specs.Shaped.{Shaped};
 

@@ -1,25 +1,19 @@
 // The checks that every call on a formatted state begins with: on the state alone, or with its spare area; and all those of a call on
 // one logical page.
-use crate::answers::Refusal;
 use crate::groups::group_sound;
-use crate::numbers::HEAD;
-use crate::numbers::numbers;
 use crate::numbers::state_len;
-use crate::numbers::within_limits;
-use spare::Numbers;
+use answers::Opened;
+use answers::Refusal;
+use front::device::HEAD;
+use front::device::numbers;
+use front::device::within_limits;
 ghost use mathlib.Core.Path.{_≡_};
 ghost use mathlib.Core.List.{[]};
 ghost use Rattle.calls.specs.Refusals.{opening, openingWith};
 ghost use Rattle.calls.specs.Lookup.{lookupChecks};
 ghost use Rattle.calls.specs.History.{lend};
+ghost use Rattle.answers.specs.Opening.{verdict, verdictOf};
 ghost use Rattle.state.specs.Reading.{readState};
-ghost use Rattle.state.specs.Opening.{verdict, verdictOf};
-
-// The device numbers, or the refusal.
-pub enum Opened {
-    Device(Numbers),
-    Refused(Refusal),
-}
 
 // The device numbers of a state that has them, within their limits, and the length that they give.
 pub fn open_state(state: &[u8]) -> Opened

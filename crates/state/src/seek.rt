@@ -1,15 +1,15 @@
 // A lookup in a sound group: from a logical page to the page that holds it, by the records and the predicted page's entries, unless it
 // is discarded.
-use crate::answers::Found;
-use crate::answers::Lookup;
-use crate::answers::Refusal;
 use crate::groups::find;
 use crate::marks::is_marked;
+use answers::Found;
+use answers::Lookup;
+use answers::Refusal;
+use front::Numbers;
 use group::Hit;
 use record::Page;
 use record::Record;
 use spare::Named;
-use spare::Numbers;
 ghost use mathlib.Core.Path.{_≡_};
 ghost use mathlib.Core.Bool.{true};
 ghost use mathlib.Core.List.{List};
@@ -20,11 +20,11 @@ ghost use Rattle.model.specs.Record.{predict};
 ghost use Rattle.model.specs.State.{groupAt};
 ghost use Rattle.model.specs.Sound.{soundGroup};
 ghost use Rattle.calls.specs.Lookup.{lookedAt, descend, seek, answerOf};
-ghost use Rattle.spare.specs.Read.{numbersOf};
+ghost use Rattle.front.specs.Read.{numbersOf};
 ghost use Rattle.record.specs.Read.{asRecord};
+ghost use Rattle.answers.specs.Answers.{lookupAnswer};
 ghost use Rattle.state.specs.Reading.{readState};
 ghost use Rattle.state.specs.Shaped.{Shaped};
-ghost use Rattle.state.specs.Answers.{lookupAnswer};
 
 // What comes of a lookup whose record is r, after n levels: from the predicted page's entries alone.
 fn named(spare: &[u32], d: Numbers, page: u32, r: Record, n: u32) -> Lookup

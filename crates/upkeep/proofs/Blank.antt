@@ -10,11 +10,11 @@ use Rattle.model.specs.Lists.{store}
 use Rattle.model.specs.Device.{Device, withinLimits, groupCount, marksCount, headLength, stateLength}
 use Rattle.model.specs.State.{withCounts, withMarks, withGroups}
 use Rattle.model.proofs.Lists.{length-store}
+use Rattle.front.specs.Formatting.{headOf}
+use Rattle.front.proofs.Head.{head-stored}
 use Rattle.state.specs.Reading.{readState}
-use Rattle.state.specs.Formatting.{headOf}
 use Rattle.state.specs.Shaped.{Shaped}
 use Rattle.state.proofs.Places.{head-inside}
-use Rattle.state.proofs.Head.{head-stored}
 
 -- the device numbers were stored at the start of bytes of their length
 module _ (d : Device) (s t : List ℕ) (within : withinLimits d ≡ true) (long : length s ≡ stateLength d) (head : t ≡ store s 0 (headOf d)) where

@@ -1,12 +1,12 @@
 // Compaction: one group's records shrink by those above them and are put back.
-use spare::Numbers;
-use state::answers::Compacted;
-use state::answers::Refusal;
+use answers::Compacted;
+use answers::Opened;
+use answers::Refusal;
+use front::Numbers;
 use state::groups::group_sound;
 use state::numbers::group_count;
 use state::numbers::group_end;
 use state::numbers::group_place;
-use state::opening::Opened;
 use state::opening::open_state;
 ghost use mathlib.Core.Path.{_≡_};
 ghost use mathlib.Core.List.{List};
@@ -18,11 +18,12 @@ ghost use Rattle.model.specs.State.{groupAt};
 ghost use Rattle.model.specs.Sound.{soundGroup};
 ghost use Rattle.calls.specs.Compaction.{compactGroup};
 ghost use Rattle.calls.specs.History.{compactCall};
-ghost use Rattle.spare.specs.Read.{numbersOf};
-ghost use Rattle.state.specs.Reading.{readState, numbersAt};
+ghost use Rattle.front.specs.Read.{numbersOf};
+ghost use Rattle.front.specs.Reading.{numbersAt};
+ghost use Rattle.answers.specs.Answers.{compactAnswer};
+ghost use Rattle.state.specs.Reading.{readState};
 ghost use Rattle.state.specs.Outside.{SameOutside};
 ghost use Rattle.state.specs.Shaped.{Shaped};
-ghost use Rattle.state.specs.Answers.{compactAnswer};
 ghost use Rattle.state.specs.Ran.{deviceSlices, Ran};
 
 // Compacts group k, which is sound; how many records are left.

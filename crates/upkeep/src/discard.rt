@@ -1,10 +1,10 @@
 // Discard: a logical page is marked, so that lookup looks at its records no more.
-use state::answers::Discarded;
+use answers::Discarded;
+use answers::Opened;
 use state::marks::mark;
-use state::opening::Opened;
 use state::opening::open_page;
 ghost use Rattle.calls.specs.History.{discardCall};
-ghost use Rattle.state.specs.Answers.{discardAnswer};
+ghost use Rattle.answers.specs.Answers.{discardAnswer};
 ghost use Rattle.state.specs.Ran.{deviceSlices, Ran};
 
 // Document 02's discard.

@@ -1,9 +1,11 @@
 // Format: the device numbers, all blocks free, no logical page marked, all groups empty, every spare entry naming nobody.
+use answers::Formatted;
+use answers::Refusal;
+use front::Numbers;
+use front::device::within_limits;
+use front::device::write_numbers;
 use group::OWNED_AT;
 use group::USED_AT;
-use spare::Numbers;
-use state::answers::Formatted;
-use state::answers::Refusal;
 use state::counts::set_count;
 use state::marks::set_marks_byte;
 use state::numbers::group_count;
@@ -11,35 +13,21 @@ use state::numbers::group_end;
 use state::numbers::group_place;
 use state::numbers::marks_count;
 use state::numbers::state_len;
-use state::numbers::within_limits;
 ghost use mathlib.Core.Path.{_≡_};
 ghost use mathlib.Core.Bool.{true};
 ghost use mathlib.Core.List.{[]};
-ghost use Prim.Native.Nat.{_≤_, _<_};
+ghost use Prim.Native.Nat.{_<_};
 ghost use lib.ListN.{length, set, replicate};
-ghost use Rattle.model.specs.Lists.{store};
-ghost use Rattle.model.specs.Device.{withinLimits, groupCount, marksCount, headLength, groupLength, stateLength};
+ghost use Rattle.model.specs.Device.{withinLimits, groupCount, marksCount, groupLength, stateLength};
 ghost use Rattle.model.specs.State.{withCounts, withMarks, withGroups};
 ghost use Rattle.calls.specs.Format.{blankState};
 ghost use Rattle.calls.specs.History.{formatCall};
-ghost use Rattle.spare.specs.Read.{numbersOf};
+ghost use Rattle.front.specs.Read.{numbersOf};
+ghost use Rattle.answers.specs.Answers.{formatAnswer};
 ghost use Rattle.group.specs.Reading.{readGroup};
 ghost use Rattle.state.specs.Reading.{readState};
 ghost use Rattle.state.specs.Shaped.{Shaped};
-ghost use Rattle.state.specs.Formatting.{headOf};
-ghost use Rattle.state.specs.Answers.{formatAnswer};
 ghost use Rattle.state.specs.Ran.{deviceSlices, Ran};
-
-// The device numbers are stored at the state's start.
-fn write_numbers(state: &mut [u8], d: Numbers)
-    requires { ⌜ headLength ≤ length (now state) ⌝ }
-    ensures { λ _. ⌜ now (state .exit) ≡ store (now (state .entry)) 0 (headOf (numbersOf d)) ⌝ }
-{
-    bytes::put_u32(state, 0, d.m);
-    bytes::put_u32(state, 4, d.b);
-    bytes::put_u32(state, 8, d.n);
-    bytes::put_u32(state, 12, d.g);
-}
 
 // Every block becomes free.
 fn free_blocks(state: &mut [u8], d: Numbers)

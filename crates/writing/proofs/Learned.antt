@@ -21,12 +21,12 @@ use Rattle.model.proofs.Run.{kind-even, kind-odd}
 use Rattle.model.proofs.Runs.{Part, Parted}
 use Rattle.model.proofs.Learned.{learn-parted, learn-length, learn-sound, part-members}
 use Rattle.model.proofs.GreedyRuns.{learn-greedy}
+use Rattle.front.proofs.Tables.{length-from, getD-from}
 use Rattle.record.specs.declared.Record as struct
 use Rattle.record.specs.Read.{asRecord, bare}
 use Rattle.insertion.proofs.ListWrites.{all-at}
 use Rattle.learn.specs.Runs.{records, counts}
 use Rattle.learn.proofs.RunsReadBack.{record-at, count-at}
-use Rattle.state.proofs.Tables.{length-from, getD-from}
 use Rattle.writing.specs.Handed.{firstPlace, offsetsAt, ownedOf, owning, noRecord, learnedAt, runGroup, handedRun, runsFrom, Learned}
 
 -- a run of the first of the pages l, on the pages from p on

@@ -18,9 +18,9 @@ use Rattle.model.specs.Sound.{soundGroup, soundGroups}
 use Rattle.model.proofs.SoundGroup.{insert-sound}
 use Rattle.model.proofs.SoundGroups.{group-sound, set-sound}
 use Rattle.model.proofs.TakeIn.{takeInAll-length, takeInAll-at}
+use Rattle.front.specs.Tables.{listFrom}
 use Rattle.record.specs.declared.Record as struct
 use Rattle.insertion.proofs.ListWrites.{all-at}
-use Rattle.state.specs.Regions.{listFrom}
 use Rattle.state.specs.Shaped.{Shaped}
 use Rattle.state.proofs.Shaping.{shaped-groups}
 use Rattle.writing.specs.Handed.{firstPlace, noRecord, learnedAt, runGroup, handedRun, runsFrom, runsEnd, Sorted, Learned}

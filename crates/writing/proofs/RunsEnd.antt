@@ -11,8 +11,8 @@ use lib.ListN.{length, getD}
 use borrow.Author.Tests.{ltb-true, ltb-false, eqb-true, eqb-false, eq-eqb, ne-eqb}
 use Rattle.model.specs.Lists.{ascending}
 use Rattle.model.specs.Learning.{recordsFor}
+use Rattle.front.specs.Tables.{listFrom}
 use Rattle.record.specs.declared.Record.{Record}
-use Rattle.state.specs.Regions.{listFrom}
 use Rattle.model.proofs.Ascent.{rises}
 use Rattle.writing.specs.Handed.{firstPlace, runGroup, handedRun, runsFrom, endFrom, runsEnd, Counted}
 use Rattle.writing.proofs.Places.{place-le, page-inside}

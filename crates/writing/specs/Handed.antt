@@ -14,9 +14,9 @@ use Rattle.model.specs.Record.{Record, Kind, single, accurate, approximate, kin
 use Rattle.model.specs.Learning.{Run}
 use Rattle.model.specs.Sound.{soundRecord}
 use Rattle.model.specs.Demand2.{offsets}
+use Rattle.front.specs.Tables.{listFrom}
 use Rattle.record.specs.declared.Record as struct
 use Rattle.record.specs.Read.{asRecord}
-use Rattle.state.specs.Regions.{listFrom}
 use Rattle.writing.specs.declared.Place.{Place}
 
 -- the place in the batch of run i's first page

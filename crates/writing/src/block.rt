@@ -1,6 +1,6 @@
 // Writing a block, as a flush and a collection do.
 use crate::take_in_all;
-use spare::Numbers;
+use front::Numbers;
 use state::counts::set_count;
 ghost use mathlib.Core.Path.{_≡_};
 ghost use mathlib.Core.Bool.{true};
@@ -14,7 +14,7 @@ ghost use Rattle.model.specs.Spare.{programBlock};
 ghost use Rattle.model.specs.Learning.{Write, logicals};
 ghost use Rattle.model.specs.Sound.{soundState};
 ghost use Rattle.calls.specs.Flush.{writeState};
-ghost use Rattle.spare.specs.Read.{numbersOf};
+ghost use Rattle.front.specs.Read.{numbersOf};
 ghost use Rattle.state.specs.Reading.{readState};
 ghost use Rattle.state.specs.Shaped.{Shaped};
 

@@ -1,8 +1,8 @@
 // A block written, as a flush and a collection do: here the learned records are handed to the table, each group taking in its own.
 pub mod block;
 
+use front::Numbers;
 use record::Record;
-use spare::Numbers;
 use state::numbers::group_end;
 use state::numbers::group_place;
 ghost use mathlib.Core.Path.{_≡_};
@@ -15,7 +15,7 @@ ghost use Rattle.model.specs.Learning.{learn};
 ghost use Rattle.model.specs.Levels.{takeInAll};
 ghost use Rattle.model.specs.State.{withGroups};
 ghost use Rattle.model.specs.Sound.{soundGroups};
-ghost use Rattle.spare.specs.Read.{numbersOf};
+ghost use Rattle.front.specs.Read.{numbersOf};
 ghost use Rattle.record.specs.Scan.{masked};
 ghost use Rattle.group.specs.Reading.{readGroup};
 ghost use Rattle.state.specs.Reading.{readState};

@@ -18,10 +18,12 @@ use crate::timing::compare;
 pub struct Buffers {
     /// The state.
     pub state: Vec<u8>,
-    /// The spare area.
+    /// The spare area; the plain engine has none.
     pub area: Vec<u32>,
-    plan: Vec<u32>,
-    erased: Vec<u32>,
+    /// The plan.
+    pub plan: Vec<u32>,
+    /// The list of erased blocks.
+    pub erased: Vec<u32>,
 }
 
 impl Buffers {
@@ -113,13 +115,13 @@ const PIECE: usize = 1024;
 
 impl Changed {
     /// Has either side make the call once, to see what it changes.
-    fn new(before: Buffers, call: &dyn Fn(&dyn Calls, &mut Buffers)) -> Changed {
+    fn new<C: ?Sized>(sides: [&C; 2], before: Buffers, call: impl Fn(&C, &mut Buffers)) -> Changed {
         let mut changed = Changed {
             now: before.clone(),
             before,
             pieces: [Vec::new(), Vec::new()],
         };
-        for calls in [&Baseline as &dyn Calls, &Exported] {
+        for calls in sides {
             call(calls, &mut changed.now);
             let Changed { before, now, .. } = &changed;
             let found = [
@@ -174,25 +176,47 @@ pub fn time_each<T>(
     arguments: &[T],
     call: impl Fn(&dyn Calls, &mut Buffers, &T),
 ) {
+    let sides: [&dyn Calls; 2] = [&Baseline, &Exported];
+    time_sides(
+        sides,
+        function,
+        input,
+        before,
+        arguments,
+        |calls, now, argument| {
+            call(calls, now, argument);
+        },
+    );
+}
+
+/// As [`time_each`], with the baseline's calls and the proved ones of an engine.
+pub fn time_sides<C: ?Sized, T>(
+    sides: [&C; 2],
+    function: &str,
+    input: &str,
+    before: &Buffers,
+    arguments: &[T],
+    call: impl Fn(&C, &mut Buffers, &T),
+) {
     let changed = arguments.iter().map(|argument| {
-        let call = |calls: &dyn Calls, buffers: &mut Buffers| call(calls, buffers, argument);
-        Changed::new(before.clone(), &call)
+        let call = |calls: &C, buffers: &mut Buffers| call(calls, buffers, argument);
+        Changed::new(sides, before.clone(), call)
     });
-    let run = |calls: &'static dyn Calls| {
+    let [baseline, proved] = sides.map(|calls| {
         let call = &call;
         move |work: &mut Vec<Changed>| {
             for (changed, argument) in work.iter_mut().zip(arguments) {
                 call(calls, &mut changed.now, argument);
             }
         }
-    };
+    });
     row(function, input, || {
         compare(
             &mut changed.collect(),
             arguments.len(),
             |work: &mut Vec<Changed>| work.iter_mut().for_each(Changed::restore),
-            run(&Baseline),
-            run(&Exported),
+            baseline,
+            proved,
         )
     });
 }

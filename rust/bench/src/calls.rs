@@ -157,7 +157,7 @@ pub fn compaction() {
 }
 
 /// Small to large devices, the last one the largest.
-fn devices() -> [(String, Device); 4] {
+pub fn devices() -> [(String, Device); 4] {
     [(9, 64), (129, 256), (1025, 256), (4096, 256)].map(|(blocks, block_pages)| {
         let device = full_device(blocks, block_pages, 1);
         (format!("{blocks} x {block_pages}"), device)
@@ -229,7 +229,7 @@ fn time_flushes(input: &str, before: &Buffers, batches: &[Vec<u32>]) {
 }
 
 /// This many distinct logical pages in clusters, somewhere in the middle.
-fn clustered(device: &Device, length: u32) -> Vec<u32> {
+pub fn clustered(device: &Device, length: u32) -> Vec<u32> {
     let random = &mut Random::new(length.into());
     let mut page = device.logical_pages / 3;
     let pages = (0..length).map(|_| {

@@ -1,6 +1,6 @@
 //! Times the proved code, through its static libraries, beside the baseline: the
 //! same inputs in the same run, as ratios. First the inner functions, then the
-//! calls.
+//! calls, those of the plain engine last.
 //!
 //! `cargo run --release -p hedjosur-bench` in this workspace, best on a machine
 //! with nothing else to do; behind `--` the name of a function, and of an input if
@@ -14,6 +14,7 @@ mod calls;
 mod groups;
 mod kinds;
 mod passes;
+mod plain;
 mod timing;
 
 use std::process::ExitCode;
@@ -21,7 +22,7 @@ use std::process::ExitCode;
 use timing::Comparison;
 
 /// What is timed, by the function's name in the table.
-const PARTS: [(&str, fn()); 17] = [
+const PARTS: [(&str, fn()); 24] = [
     ("learn", batches::learning),
     ("sort", batches::sorting),
     ("program", passes::programming),
@@ -39,6 +40,13 @@ const PARTS: [(&str, fn()); 17] = [
     ("flush", calls::flush_of_discarded),
     ("collection", calls::collection),
     ("agreement", calls::agreement),
+    ("plain format", plain::format),
+    ("plain lookup", plain::lookup),
+    ("plain discard", plain::discard),
+    ("plain flush", plain::flush),
+    ("plain flush", plain::flush_of_patterns),
+    ("plain flush", plain::flush_of_orders),
+    ("plain collection", plain::collection),
 ];
 
 fn main() -> ExitCode {
@@ -54,7 +62,7 @@ fn main() -> ExitCode {
         return ExitCode::from(2);
     }
     println!(
-        "{:<12} {:<30} {:>12} {:>12} {:>8}",
+        "{:<16} {:<30} {:>12} {:>12} {:>8}",
         "function", "input", "baseline µs", "proved µs", "ratio"
     );
     for (_, time) in asked {
@@ -70,5 +78,5 @@ fn row(function: &str, input: &str, times: impl FnOnce() -> Comparison) {
     }
     let Comparison { baseline, proved } = times();
     let ratio = proved / baseline;
-    println!("{function:<12} {input:<30} {baseline:>12.3} {proved:>12.3} {ratio:>8.2}");
+    println!("{function:<16} {input:<30} {baseline:>12.3} {proved:>12.3} {ratio:>8.2}");
 }

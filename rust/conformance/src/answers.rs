@@ -31,6 +31,15 @@ impl Answers {
         self.0.get(call).copied().unwrap_or_default()
     }
 
+    /// The answers of one kind's calls: 0 where some were accepted, and the refusals
+    /// that occurred, by number.
+    pub fn met(&self, call: &str) -> Vec<usize> {
+        let answers = self.of(call);
+        (0..answers.len())
+            .filter(|&number| answers[number] > 0)
+            .collect()
+    }
+
     /// How many calls were accepted.
     pub fn accepted(&self) -> usize {
         self.totals()[0]

@@ -2,9 +2,12 @@
 //! past their limits.
 
 use hedjosur::LISTING_LEN;
-use hedjosur_layout::{encode_state, groups_at, state_bytes, GROUP_BYTES, HEAD_BYTES};
+use hedjosur_layout::{
+    encode_plain_state, encode_state, groups_at, state_bytes, GROUP_BYTES, HEAD_BYTES,
+};
 use hedjosur_model::device::{group_of, offset_of, Device};
 use hedjosur_model::ops::Refusal;
+use hedjosur_model::plain;
 use hedjosur_model::spare;
 use hedjosur_model::state::State;
 use hedjosur_model::testing::{
@@ -16,6 +19,7 @@ use crate::answers::Answers;
 use crate::beside::Beside;
 use crate::calls::Calls;
 use crate::inputs::damage;
+use crate::steps::Writer;
 
 /// Calls of each kind on arbitrary states and spare areas, sound or damaged, with
 /// arguments and lengths of all kinds: at least 65 a round.
@@ -138,7 +142,7 @@ fn aim(random: &mut Random, device: &Device, state: &mut State, area: &mut [u32]
 }
 
 /// The numbers of a device, now and then with one changed.
-fn any_numbers(random: &mut Random, device: &Device) -> [u32; 4] {
+pub(crate) fn any_numbers(random: &mut Random, device: &Device) -> [u32; 4] {
     let mut numbers = device.numbers();
     if random.once_in(2) {
         let at = random.below(4) as usize;
@@ -148,7 +152,7 @@ fn any_numbers(random: &mut Random, device: &Device) -> [u32; 4] {
 }
 
 /// Gives a list another length, now and then.
-fn resize<T: Clone + Default>(random: &mut Random, list: &mut Vec<T>) {
+pub(crate) fn resize<T: Clone + Default>(random: &mut Random, list: &mut Vec<T>) {
     if random.once_in(25) {
         let length = random.pick(&[0, 15, list.len().saturating_sub(1), list.len() + 1]);
         list.resize(length, T::default());
@@ -156,7 +160,7 @@ fn resize<T: Clone + Default>(random: &mut Random, list: &mut Vec<T>) {
 }
 
 /// Lengths around a right one, with it, and others that mean something elsewhere.
-fn lengths_around(right: usize) -> [usize; 9] {
+pub(crate) fn lengths_around(right: usize) -> [usize; 9] {
     [
         0,
         1,
@@ -170,8 +174,8 @@ fn lengths_around(right: usize) -> [usize; 9] {
     ]
 }
 
-/// Every call with each of its slices in turn at lengths around the right one,
-/// on new and on used devices.
+/// Every call with each of its slices in turn at lengths around the right one, and with
+/// the plain engine's state, on new and on used devices.
 pub fn check_wrong_lengths(calls: &impl Calls) {
     let mut answers = Answers::default();
     rounds(4, &mut answers, |random, log, answers| {
@@ -195,6 +199,8 @@ pub fn check_wrong_lengths(calls: &impl Calls) {
             bytes.resize(length, 0);
             one_of_each(beside, &device, (bytes, entries.clone()), other, right);
         }
+        let plain = encode_plain_state(&plain::State::formatted(&device));
+        one_of_each(beside, &device, (plain, entries.clone()), other, right);
         for length in lengths_around(area) {
             let mut entries = entries.clone();
             entries.resize(length, 0);
@@ -327,35 +333,52 @@ pub fn check_arguments(calls: &impl Calls) {
         assert_eq!(beside.format(device.numbers()), Ok(()));
         let [mut plan, _] = lists(&device);
         assert!(beside.flush(&[0, 1, n - 2, n - 1], &mut plan).is_ok());
-        let far = [1 << 20, 1 << 24, 1 << 31, u32::MAX];
-        for page in (0..3).chain(n - 2..n + 3).chain(far) {
+        for page in (0..3).chain(n - 2..n + 3).chain(FAR) {
             let expected = (page >= n).then_some(Refusal::OutOfRange);
             assert_eq!(beside.lookup(page).err(), expected);
             assert_eq!(beside.discard(page).err(), expected);
             assert_eq!(beside.lookup(page).err(), expected);
         }
-        for group in (0..groups + 2).chain(far) {
+        for group in (0..groups + 2).chain(FAR) {
             let expected = (group >= groups).then_some(Refusal::OutOfRange);
             assert_eq!(beside.list(group, LISTING_LEN).err(), expected);
             assert_eq!(beside.compact(group).err(), expected);
         }
         let formatted = beside.lent();
-        for length in [0usize, 1, 2, 255, 256, 257, 258, 1000, 70_000] {
-            for page in [0, n - 1, n, u32::MAX] {
-                for at in [0, length / 2, length.saturating_sub(1)] {
-                    let mut batch: Vec<u32> = (0..length as u32).map(|i| i % n).collect();
-                    batch.iter_mut().skip(at).take(1).for_each(|p| *p = page);
-                    let [mut plan, _] = lists(&device);
-                    beside.lend(formatted.0.clone(), formatted.1.clone());
-                    let expected = match length {
-                        1..=256 if page < n => None,
-                        1..=256 => Some(Refusal::OutOfRange),
-                        _ => Some(Refusal::BadBatch),
-                    };
-                    assert_eq!(beside.flush(&batch, &mut plan).err(), expected);
-                }
-            }
+        for (batch, refusal) in batches_at_limits(&device) {
+            let [mut plan, _] = lists(&device);
+            beside.lend(formatted.0.clone(), formatted.1.clone());
+            assert_eq!(beside.flush(&batch, &mut plan).err(), refusal);
         }
     });
     answers.tell("arguments at their limits", 900 * multiplier() as usize);
+}
+
+/// Numbers that no logical page and no group has.
+pub(crate) const FAR: [u32; 4] = [1 << 20, 1 << 24, 1 << 31, u32::MAX];
+
+/// Batches at and past the limits of a device with blocks of 256 pages that has free
+/// ones, each with its refusal.
+pub(crate) fn batches_at_limits(
+    device: &Device,
+) -> impl Iterator<Item = (Vec<u32>, Option<Refusal>)> {
+    let n = device.logical_pages;
+    let lengths = [0, 1, 2, 255, 256, 257, 258, 1000, 70_000];
+    lengths.into_iter().flat_map(move |length: usize| {
+        let places = [0, length / 2, length.saturating_sub(1)];
+        let pages = [0, n - 1, n, u32::MAX];
+        let changes = pages
+            .into_iter()
+            .flat_map(move |p| places.map(|at| (p, at)));
+        changes.map(move |(page, at)| {
+            let mut batch: Vec<u32> = (0..length as u32).map(|i| i % n).collect();
+            batch.iter_mut().skip(at).take(1).for_each(|p| *p = page);
+            let refusal = match length {
+                1..=256 if page < n => None,
+                1..=256 => Some(Refusal::OutOfRange),
+                _ => Some(Refusal::BadBatch),
+            };
+            (batch, refusal)
+        })
+    })
 }

@@ -1,4 +1,4 @@
-//! An implementation of the calls beside the model: answers, refusals and the
+//! An implementation of the learned engine's calls beside the model: answers, refusals and the
 //! contents of every lent slice have to be equal after every call.
 
 use std::fmt::Debug;
@@ -13,6 +13,7 @@ use hedjosur_model::testing::{lists, CallLog, World};
 
 use crate::answers::Answers;
 use crate::calls::Calls;
+use crate::steps::Writer;
 
 /// A device as an implementation of the calls leaves it, beside the model's.
 #[derive(Debug)]
@@ -111,19 +112,6 @@ impl<'a, C: Calls> Beside<'a, C> {
         )
     }
 
-    /// Flushes a batch; the plan has these contents before.
-    pub fn flush(&mut self, batch: &[u32], plan: &mut [u32]) -> Result<Flushed, Refusal> {
-        self.log.note(("flush", batch, plan.len()));
-        let mut expected = plan.to_vec();
-        let answer = self.write(
-            "flush",
-            |model| ops::flush(&mut model.lent, &mut model.area, batch, &mut expected),
-            |calls, state, area| calls.flush(state, area, batch, plan),
-        );
-        assert_eq!(plan, expected);
-        answer
-    }
-
     /// Looks a logical page up.
     pub fn lookup(&mut self, logical_page: u32) -> Result<Lookup, Refusal> {
         self.log.note(("lookup", logical_page));
@@ -132,38 +120,6 @@ impl<'a, C: Calls> Beside<'a, C> {
             |model| model.lookup(logical_page),
             |calls, state, area| calls.lookup(state, area, logical_page),
         )
-    }
-
-    /// Discards a logical page.
-    pub fn discard(&mut self, logical_page: u32) -> Result<(), Refusal> {
-        self.log.note(("discard", logical_page));
-        let before = self.bytes.clone();
-        let answer = self.write(
-            "discard",
-            |model| model.discard(logical_page),
-            |calls, state, area| calls.discard(state, area, logical_page),
-        );
-        let bytes = before.iter().zip(&self.bytes);
-        let changed = bytes.filter(|(before, after)| before != after).count();
-        assert!(changed <= 1, "a discard changed {changed} bytes");
-        answer
-    }
-
-    /// Collects; the lists have these contents before.
-    pub fn collect(&mut self, plan: &mut [u32], erased: &mut [u32]) -> Result<Collected, Refusal> {
-        self.log.note(("collect", plan.len(), erased.len()));
-        let mut expected = [plan.to_vec(), erased.to_vec()];
-        let [expected_plan, expected_erased] = &mut expected;
-        let answer = self.write(
-            "collect",
-            |model| {
-                let World { lent, area } = model;
-                ops::collection(lent, area, expected_plan, expected_erased)
-            },
-            |calls, state, area| calls.collect(state, area, plan, erased),
-        );
-        assert_eq!([plan, erased], expected);
-        answer
     }
 
     /// Compacts a group.
@@ -262,6 +218,50 @@ impl<'a, C: Calls> Beside<'a, C> {
             Line::Compaction(group) => Answer::Compacted(self.compact(*group)?),
             Line::List(group) => Answer::Listed(self.list(*group, LISTING_LEN)?),
         })
+    }
+}
+
+impl<C: Calls> Writer for Beside<'_, C> {
+    fn flush(&mut self, batch: &[u32], plan: &mut [u32]) -> Result<Flushed, Refusal> {
+        self.log.note(("flush", batch, plan.len()));
+        let mut expected = plan.to_vec();
+        let answer = self.write(
+            "flush",
+            |model| ops::flush(&mut model.lent, &mut model.area, batch, &mut expected),
+            |calls, state, area| calls.flush(state, area, batch, plan),
+        );
+        assert_eq!(plan, expected);
+        answer
+    }
+
+    fn discard(&mut self, logical_page: u32) -> Result<(), Refusal> {
+        self.log.note(("discard", logical_page));
+        let before = self.bytes.clone();
+        let answer = self.write(
+            "discard",
+            |model| model.discard(logical_page),
+            |calls, state, area| calls.discard(state, area, logical_page),
+        );
+        let bytes = before.iter().zip(&self.bytes);
+        let changed = bytes.filter(|(before, after)| before != after).count();
+        assert!(changed <= 1, "a discard changed {changed} bytes");
+        answer
+    }
+
+    fn collect(&mut self, plan: &mut [u32], erased: &mut [u32]) -> Result<Collected, Refusal> {
+        self.log.note(("collect", plan.len(), erased.len()));
+        let mut expected = [plan.to_vec(), erased.to_vec()];
+        let [expected_plan, expected_erased] = &mut expected;
+        let answer = self.write(
+            "collect",
+            |model| {
+                let World { lent, area } = model;
+                ops::collection(lent, area, expected_plan, expected_erased)
+            },
+            |calls, state, area| calls.collect(state, area, plan, erased),
+        );
+        assert_eq!([plan, erased], expected);
+        answer
     }
 }
 

@@ -37,3 +37,24 @@ pub trait Calls {
     /// Lists a group; its records stand at the front of `out`, too.
     fn list(&self, state: &[u8], group: u32, out: &mut [u8]) -> Result<Vec<Listed>, Refusal>;
 }
+
+/// An implementation of the plain engine's calls, which are lent no spare area.
+pub trait PlainCalls {
+    /// The length of the state, where the numbers are inside limits.
+    fn length(&self, numbers: [u32; 4]) -> Option<usize>;
+    /// Formats a device.
+    fn format(&self, state: &mut [u8], numbers: [u32; 4]) -> Result<(), Refusal>;
+    /// Flushes a batch.
+    fn flush(&self, state: &mut [u8], batch: &[u32], plan: &mut [u32]) -> Result<Flushed, Refusal>;
+    /// Looks a logical page up; answers its page, if it is written.
+    fn lookup(&self, state: &[u8], logical_page: u32) -> Result<Option<u32>, Refusal>;
+    /// Discards a logical page.
+    fn discard(&self, state: &mut [u8], logical_page: u32) -> Result<(), Refusal>;
+    /// Collects.
+    fn collect(
+        &self,
+        state: &mut [u8],
+        plan: &mut [u32],
+        erased: &mut [u32],
+    ) -> Result<Collected, Refusal>;
+}

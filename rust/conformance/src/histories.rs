@@ -18,6 +18,7 @@ use hedjosur_model::testing::{
 use crate::answers::Answers;
 use crate::beside::Beside;
 use crate::calls::Calls;
+use crate::steps::{discard_some, flush_by_any_means, Writer};
 
 /// Every case of document 01, call by call.
 pub fn check_cases(calls: &impl Calls) {
@@ -83,7 +84,7 @@ pub fn check_histories(calls: &impl Calls, base: u64) {
 /// other in the same buffers, with calls of all kinds after each.
 pub fn check_shared_lengths(calls: &impl Calls) {
     let mut answers = Answers::default();
-    let alike = devices_alike();
+    let alike = devices_alike(|device| [state_bytes(device), device.spare_length()]);
     rounds(30, &mut answers, |random, log, answers| {
         let devices = &alike[random.below(alike.len() as u32) as usize];
         let mut beside = Beside::new(calls, log, answers);
@@ -95,10 +96,10 @@ pub fn check_shared_lengths(calls: &impl Calls) {
     answers.tell("devices of one length", 12_000 * multiplier() as usize);
 }
 
-/// Small devices by the lengths of their state and their spare area, where some have
-/// more blocks than others. What they have more of counts they have less of marks.
-fn devices_alike() -> Vec<Vec<Device>> {
-    let mut alike: BTreeMap<[usize; 2], Vec<Device>> = BTreeMap::new();
+/// Small devices by the lengths of what is lent, where some have more blocks than
+/// others. What they have more of counts they have less of marks or entries.
+pub(crate) fn devices_alike<L: Ord>(lengths: impl Fn(&Device) -> L) -> Vec<Vec<Device>> {
+    let mut alike: BTreeMap<L, Vec<Device>> = BTreeMap::new();
     for (blocks, block_pages) in (3..=8).flat_map(|m| (4..=24).map(move |b| (m, b))) {
         for bound in 0..=2 {
             let full = full_device(blocks, block_pages, bound);
@@ -107,8 +108,7 @@ fn devices_alike() -> Vec<Vec<Device>> {
                     logical_pages,
                     ..full
                 };
-                let lengths = [state_bytes(&device), device.spare_length()];
-                alike.entry(lengths).or_default().push(device);
+                alike.entry(lengths(&device)).or_default().push(device);
             }
         }
     }
@@ -130,7 +130,9 @@ fn history<C: Calls>(beside: &mut Beside<C>, device: &Device, random: &mut Rando
     for _ in 0..40 {
         let [mut plan, mut erased] = lists(device);
         match random.below(14) {
-            0..=5 => flush(beside, device, random),
+            0..=5 => flush_by_any_means(beside, device, random, |beside, random| {
+                discard_some(beside, device, random);
+            }),
             6 => {
                 let collected = beside.collect(&mut plan, &mut erased);
                 emptied += usize::from(collected.is_ok_and(|collected| collected.count == 0));
@@ -139,7 +141,7 @@ fn history<C: Calls>(beside: &mut Beside<C>, device: &Device, random: &mut Rando
             8 => beside.agree((&earlier.0, &earlier.1)),
             9 => earlier = beside.lent(),
             10 if random.once_in(8) => assert_eq!(beside.format(device.numbers()), Ok(())),
-            11 | 12 => discard(beside, device, random),
+            11 | 12 => discard_some(beside, device, random),
             _ => drop(beside.lookup(random.below(device.logical_pages))),
         }
         beside.list_all();
@@ -148,30 +150,6 @@ fn history<C: Calls>(beside: &mut Beside<C>, device: &Device, random: &mut Rando
         let _ = beside.lookup(random.below(device.logical_pages));
     }
     emptied
-}
-
-/// A flush; where it is refused, a collection and the same flush again, with discards
-/// between.
-fn flush<C: Calls>(beside: &mut Beside<C>, device: &Device, random: &mut Random) {
-    let [mut plan, mut erased] = lists(device);
-    let batch = batch(random, device);
-    if beside.flush(&batch, &mut plan).is_err() {
-        discard(beside, device, random);
-        assert!(beside.collect(&mut plan, &mut erased).is_ok());
-        discard(beside, device, random);
-        assert!(beside.flush(&batch, &mut plan).is_ok());
-    }
-}
-
-/// Discards logical pages that follow each other: none, one, a few, or all of a small
-/// device.
-fn discard<C: Calls>(beside: &mut Beside<C>, device: &Device, random: &mut Random) {
-    let logical_pages = device.logical_pages;
-    let first = random.below(logical_pages);
-    let count = random.pick(&[0, 0, 1, 1, 1, 8, 32]);
-    for number in 0..logical_pages.min(count) {
-        assert_eq!(beside.discard((first + number) % logical_pages), Ok(()));
-    }
 }
 
 /// Groups that fill up until a flush has to compact them first: by pairs of pages

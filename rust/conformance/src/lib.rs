@@ -9,10 +9,13 @@
 //! - [`groups`]: soundness, find, insertion and compaction against the model
 //! - [`calls`]: the calls on a whole state, [`beside`]: one made by the model and
 //!   by an implementation, and [`answers`]: how often each answer came
+//! - [`steps`]: steps of a list of calls
 //! - [`histories`]: lists of calls that start with a format
 //! - [`arguments`]: calls on arbitrary states, with arguments and lengths of all
 //!   kinds
 //! - [`marks`]: discards on marks that hold anything
+//! - [`plain`]: the same for the plain engine's calls
+//! - [`engines`]: both engines side by side
 //! - [`scripts`]: random scripts for the listing program
 //!
 //! The environment variable `HEDJOSUR_ROUNDS` multiplies the rounds of every check.
@@ -25,10 +28,13 @@ pub mod arguments;
 pub mod batches;
 pub mod beside;
 pub mod calls;
+pub mod engines;
 pub mod groups;
 pub mod histories;
 pub mod inputs;
 pub mod marks;
 pub mod passes;
+pub mod plain;
 pub mod scripts;
+pub mod steps;
 pub mod subjects;

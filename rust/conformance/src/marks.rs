@@ -9,6 +9,7 @@ use crate::answers::Answers;
 use crate::arguments::uneven_device;
 use crate::beside::Beside;
 use crate::calls::Calls;
+use crate::steps::Writer;
 
 /// Calls on marks that hold anything: a discard sets one bit, a flush clears those of
 /// what it writes, and every other bit stays, the bits behind the last mark too. A

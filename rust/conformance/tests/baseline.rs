@@ -1,7 +1,7 @@
 //! The baseline against the model.
 
 use hedjosur_conformance::subjects::Baseline;
-use hedjosur_conformance::{arguments, batches, groups, histories, marks, passes};
+use hedjosur_conformance::{arguments, batches, engines, groups, histories, marks, passes};
 
 #[test]
 fn sorting() {
@@ -96,4 +96,60 @@ fn numbers_at_their_limits() {
 #[test]
 fn arguments_at_their_limits() {
     arguments::check_arguments(&Baseline);
+}
+
+#[test]
+fn both_engines() {
+    engines::check_engines(&Baseline, 500);
+}
+
+/// The plain engine.
+mod plain {
+    use hedjosur_conformance::plain::{arguments, histories, largest, refusals, sizes};
+    use hedjosur_conformance::subjects::Baseline;
+
+    #[test]
+    fn cases() {
+        histories::check_cases(&Baseline);
+    }
+
+    #[test]
+    fn random_histories() {
+        histories::check_histories(&Baseline, 200);
+    }
+
+    #[test]
+    fn the_largest_device() {
+        largest::check_largest_device(&Baseline);
+    }
+
+    #[test]
+    fn devices_of_all_sizes() {
+        sizes::check_sizes(&Baseline);
+    }
+
+    #[test]
+    fn arbitrary_states() {
+        arguments::check_arbitrary_states(&Baseline, 400);
+    }
+
+    #[test]
+    fn wrong_lengths() {
+        arguments::check_wrong_lengths(&Baseline);
+    }
+
+    #[test]
+    fn numbers_at_their_limits() {
+        arguments::check_limits(&Baseline);
+    }
+
+    #[test]
+    fn arguments_at_their_limits() {
+        arguments::check_arguments(&Baseline);
+    }
+
+    #[test]
+    fn refusals_in_their_order() {
+        refusals::check_orders(&Baseline);
+    }
 }

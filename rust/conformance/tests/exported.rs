@@ -2,7 +2,7 @@
 //! wrapper. Each check tells how many calls it made without a difference.
 
 use hedjosur_conformance::subjects::Exported;
-use hedjosur_conformance::{arguments, histories, marks};
+use hedjosur_conformance::{arguments, engines, histories, marks};
 
 #[test]
 fn cases() {
@@ -57,4 +57,60 @@ fn numbers_at_their_limits() {
 #[test]
 fn arguments_at_their_limits() {
     arguments::check_arguments(&Exported);
+}
+
+#[test]
+fn both_engines() {
+    engines::check_engines(&Exported, 3500);
+}
+
+/// The plain engine.
+mod plain {
+    use hedjosur_conformance::plain::{arguments, histories, largest, refusals, sizes};
+    use hedjosur_conformance::subjects::Exported;
+
+    #[test]
+    fn cases() {
+        histories::check_cases(&Exported);
+    }
+
+    #[test]
+    fn random_histories() {
+        histories::check_histories(&Exported, 3000);
+    }
+
+    #[test]
+    fn the_largest_device() {
+        largest::check_largest_device(&Exported);
+    }
+
+    #[test]
+    fn devices_of_all_sizes() {
+        sizes::check_sizes(&Exported);
+    }
+
+    #[test]
+    fn arbitrary_states() {
+        arguments::check_arbitrary_states(&Exported, 12_000);
+    }
+
+    #[test]
+    fn wrong_lengths() {
+        arguments::check_wrong_lengths(&Exported);
+    }
+
+    #[test]
+    fn numbers_at_their_limits() {
+        arguments::check_limits(&Exported);
+    }
+
+    #[test]
+    fn arguments_at_their_limits() {
+        arguments::check_arguments(&Exported);
+    }
+
+    #[test]
+    fn refusals_in_their_order() {
+        refusals::check_orders(&Exported);
+    }
 }

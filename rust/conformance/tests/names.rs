@@ -25,7 +25,9 @@ fn lines_of(file: &str, head: &str) -> Vec<String> {
     let lines = text.lines().skip_while(|line| *line != head).skip(1);
     let lines = lines.take_while(|line| !line.starts_with('}'));
     let lines = lines.map(|line| line.trim().trim_end_matches(',').to_string());
-    lines.filter(|line| !line.starts_with("/*")).collect()
+    // A comment's further lines start with an asterisk.
+    let is_comment = |line: &String| line.starts_with("/*") || line.starts_with('*');
+    lines.filter(|line| !is_comment(line)).collect()
 }
 
 /// A name in capitals, its words joined by underscores.
@@ -64,7 +66,7 @@ fn in_c() {
 /// In the order of their numbers.
 #[test]
 fn in_rattle() {
-    let rattle = lines_of("crates/state/src/answers.rt", "pub enum Refusal {");
+    let rattle = lines_of("crates/answers/src/lib.rt", "pub enum Refusal {");
     let names = refusals().into_iter().map(|(name, _)| name);
     assert_eq!(rattle, Vec::from_iter(names));
 }

@@ -1,6 +1,7 @@
 /*
- * Hedjosur, a learned page table for raw flash, for C and C++: the functions of the
- * static library libexport.a, which `rt staticlib export` builds.
+ * Hedjosur, a learned page table for raw flash and a plain one beside it, for C and
+ * C++: the functions of the static library libexport.a, which `rt staticlib export`
+ * builds.
  *
  * A driver owns the flash. It lends the table two buffers, the state and the spare
  * area, and is told where pages go and where they are:
@@ -21,15 +22,28 @@
  * stands at the archive's own functions below; those on a struct hedjosur_device, at
  * the end, are the same calls with their answer taken apart.
  *
+ * TWO ENGINES. hedjosur_plain_... are the calls of a plain table, one page number of 32
+ * bits for each logical page; a struct hedjosur_plain_device has them taken apart, and
+ * examples/recorder.c is a driver with it. It is lent the state alone, no spare area,
+ * and has neither compaction nor agreement nor listing. From a format, the same calls
+ * give the same pages, plans, erased lists and refusals in both engines, and what is
+ * said here of a call holds for both. Take the plain one where 4 bytes for each logical
+ * page are to spare: it is lent less than the learned one, and no page's out-of-band
+ * bytes are needed; but all of its bytes are in use, and flush and collection go over
+ * all of them, with 145 KB of stack. Take the learned one where the stack is small, or
+ * where the bytes in use have to be few, because the table is stored or sent: neighbours
+ * that are written together share a record. A state of one engine is refused 2 by the
+ * other, since it never has the other's length.
+ *
  * WHATEVER IS LENT, a call answers or refuses; a refused call changes nothing. All
  * that is required: pointers are not null, also where a length is 0; a slice is
  * aligned as its element type is (the state not at all, 32-bit entries by 4 bytes);
  * the slices of one call don't overlap where one of them is written. Two calls on one
  * device may run at the same time if both only read (lookup, agree, list).
  *
- * THE STATE is the table itself: HEDJOSUR_STATE_LEN bytes, exactly. docs/LAYOUT.md
- * fixes them, so they may be stored and lent again later, together with the spare
- * area as it was then.
+ * THE STATE is the table itself: HEDJOSUR_STATE_LEN bytes, or for the plain engine
+ * HEDJOSUR_PLAIN_STATE_LEN, exactly. docs/LAYOUT.md fixes them, so they may be stored
+ * and lent again later, together with the spare area as it was then.
  *
  * THE SPARE AREA is what the chip's out-of-band bytes hold, as the driver mirrors
  * them in memory: 2g + 1 numbers of 32 bits for each page, page after page,
@@ -41,7 +55,7 @@
  * program operation as its data, since a page can be programmed only once. In memory
  * the numbers have the processor's byte order; on the chip the order is the driver's
  * choice, and low byte first, as in the state, is a good one. 2g + 1 numbers take 4 to
- * 124 bytes.
+ * 124 bytes. The plain engine takes and keeps g, too, and doesn't use it.
  *
  * AFTER AN ACCEPTED FORMAT the driver erases every block: the table takes all of them
  * for erased.
@@ -63,8 +77,12 @@
  *
  * STACK. HEDJOSUR_STACK_... below are the bytes that each call needs at most beneath
  * its caller, held to by a test that measures on a painted stack; nothing recurses and
- * nothing is allocated. A program that is linked dynamically and binds lazily spends
- * some 3 KB more in the first call that reaches memset or memcpy (not with -z now).
+ * nothing is allocated. The plain engine's flush and collection keep a bit for each
+ * page there. They use half a KiB of bits on a device of up to 4,096 pages, 4 KiB up
+ * to 32,768, 32 KiB up to 262,144 and 128 KiB above, but take the room for the most
+ * pages, and touch all of it, on every device. A program that is linked dynamically and
+ * binds lazily spends some 3 KB more in the first call that reaches memset or memcpy
+ * (not with -z now).
  *
  * LINKING. The archive needs memcpy, memmove and memset, and nothing else. It is code
  * for x86-64 Linux (System V calls, position independent), because that is what the
@@ -105,10 +123,10 @@ extern "C" {
 #endif
 
 /* The version of this header, of the Rust crate and of the archive's interface. */
-#define HEDJOSUR_VERSION "0.2.2"
+#define HEDJOSUR_VERSION "0.3.0"
 #define HEDJOSUR_VERSION_MAJOR 0
-#define HEDJOSUR_VERSION_MINOR 2
-#define HEDJOSUR_VERSION_PATCH 2
+#define HEDJOSUR_VERSION_MINOR 3
+#define HEDJOSUR_VERSION_PATCH 0
 
 /* The version that the caller was compiled with. */
 static inline const char *hedjosur_version(void)
@@ -123,7 +141,9 @@ enum hedjosur_refusal {
     HEDJOSUR_BAD_NUMBERS = 1,
     /* A lent slice hasn't the length that the device numbers give. */
     HEDJOSUR_BAD_LENGTH = 2,
-    /* The state, or the group looked at, is not sound. */
+    /* The state, or the group looked at, is not sound. In the plain engine: an entry is
+     * neither 0xFFFFFFFF nor a written page, for a lookup or a discard its own; for a
+     * flush or a collection also: two entries name one page, or a count is above b. */
     HEDJOSUR_NOT_SOUND = 3,
     /* A logical page is N or more, or there is no such group. */
     HEDJOSUR_OUT_OF_RANGE = 4,
@@ -131,7 +151,8 @@ enum hedjosur_refusal {
     HEDJOSUR_BAD_BATCH = 5,
     /* Too few blocks are free. */
     HEDJOSUR_NO_FREE_BLOCK = 6,
-    /* The spare area doesn't name the logical page where the table expects it. */
+    /* The spare area doesn't name the logical page where the table expects it. Never in
+     * the plain engine. */
     HEDJOSUR_NOT_NAMED = 7,
     /* A collection would free no block. */
     HEDJOSUR_NOTHING_TO_GAIN = 8
@@ -180,10 +201,13 @@ static inline const char *hedjosur_refusal_text(enum hedjosur_refusal refusal)
 #define HEDJOSUR_SPARE_LEN(m, b, n, g)                                                   \
     (HEDJOSUR_IS_DEVICE(m, b, n, g)                                                      \
          ? (size_t)(m) * (size_t)(b) * (2 * (size_t)(g) + 1) : (size_t)0)
+#define HEDJOSUR_PLAIN_STATE_LEN(m, b, n, g)                                             \
+    (HEDJOSUR_IS_DEVICE(m, b, n, g)                                                      \
+         ? 16 + 2 * (size_t)(m) + 4 * (size_t)(n) : (size_t)0)
 /* The bytes that a listing needs: 512 records of 10 bytes. */
 #define HEDJOSUR_LISTING_LEN 5120
 
-/* The stack that each call needs at most, in bytes; LEN: the two lengths. */
+/* The stack that each call needs at most, in bytes; LEN: the lengths. */
 #define HEDJOSUR_STACK_LEN 256
 #define HEDJOSUR_STACK_FORMAT 256
 #define HEDJOSUR_STACK_FLUSH 12288
@@ -193,10 +217,16 @@ static inline const char *hedjosur_refusal_text(enum hedjosur_refusal refusal)
 #define HEDJOSUR_STACK_COMPACT 2048
 #define HEDJOSUR_STACK_AGREE 2048
 #define HEDJOSUR_STACK_LIST 1024
+#define HEDJOSUR_STACK_PLAIN_FORMAT 256
+#define HEDJOSUR_STACK_PLAIN_LOOKUP 256
+#define HEDJOSUR_STACK_PLAIN_DISCARD 256
+/* A bit for each page is 131,072 of these two; a collection's tally and its blocks 12,288 more. */
+#define HEDJOSUR_STACK_PLAIN_FLUSH 135168
+#define HEDJOSUR_STACK_PLAIN_COLLECT 147456
 
 /*
  * The archive's functions. A slice is passed as a pointer and a length in elements.
- * Every call but the two lengths answers one number: hedjosur_refusal_of(answer) is
+ * Every call but the lengths answers one number: hedjosur_refusal_of(answer) is
  * HEDJOSUR_ACCEPTED where it was accepted, and the accessors below take an accepted
  * answer apart.
  */
@@ -286,6 +316,52 @@ uint64_t hedjosur_agree(const uint8_t *state_a, size_t state_a_len,
 uint64_t hedjosur_list(const uint8_t *state, size_t state_len, uint32_t group,
                        uint8_t *out, size_t out_len);
 
+/*
+ * The plain engine's functions. Batch, plan and erased are as above, and so are the
+ * answers, but for hedjosur_predicted, hedjosur_levels and hedjosur_reads, which a plain
+ * lookup doesn't have: it takes one read where the page is found. In its state, little-
+ * endian: m, b, n, g (4 bytes each), for each block its count of written pages (2), for
+ * each logical page its entry (4), the page or 0xFFFFFFFF for 'not written'. A written
+ * page is one whose place in its block is below the block's count.
+ */
+
+/* The length of the plain state in bytes, limits as above. 0 where a number is outside. */
+uint64_t hedjosur_plain_state_len(uint32_t m, uint32_t b, uint32_t n, uint32_t g);
+
+/* Formats a device, whatever its buffer held. Refuses 1 and 2 as hedjosur_format. */
+uint64_t hedjosur_plain_format(uint32_t m, uint32_t b, uint32_t n, uint32_t g,
+                               uint8_t *state, size_t state_len);
+
+/*
+ * Flushes a batch as hedjosur_flush. Refuses 1, 2, 3 where any entry is neither
+ * 0xFFFFFFFF nor a written page, where two name one page or where a count is above b,
+ * then 5, 4, and 6 where fewer than two blocks are free.
+ */
+uint64_t hedjosur_plain_flush(uint8_t *state, size_t state_len,
+                              const uint32_t *batch, size_t batch_len,
+                              uint32_t *plan, size_t plan_len);
+
+/*
+ * Looks a logical page up. Answers hedjosur_found, and hedjosur_page where it is found.
+ * Refuses 1, 2, 4, and 3 where the page's own entry is neither 0xFFFFFFFF nor a written
+ * page.
+ */
+uint64_t hedjosur_plain_lookup(const uint8_t *state, size_t state_len, uint32_t page);
+
+/*
+ * Discards a logical page as hedjosur_discard: its entry becomes 0xFFFFFFFF. Answers
+ * nothing but the refusal, as hedjosur_plain_lookup.
+ */
+uint64_t hedjosur_plain_discard(uint8_t *state, size_t state_len, uint32_t page);
+
+/*
+ * Collects blocks as hedjosur_collect; a page is valid if an entry names it. Refuses 1,
+ * 2, 3 as hedjosur_plain_flush, 8 and 6.
+ */
+uint64_t hedjosur_plain_collect(uint8_t *state, size_t state_len,
+                                uint32_t *plan, size_t plan_len,
+                                uint32_t *erased, size_t erased_len);
+
 /* Any answer: the refusal, HEDJOSUR_ACCEPTED where the call was accepted. */
 static inline enum hedjosur_refusal hedjosur_refusal_of(uint64_t answer)
 {
@@ -332,19 +408,19 @@ static inline uint32_t hedjosur_page(uint64_t answer)
     return hedjosur_bits_of(answer, 0, 0xFFFFF);
 }
 
-/* A lookup that found the logical page: the predicted page. */
+/* A lookup of the learned engine that found the logical page: the predicted page. */
 static inline uint32_t hedjosur_predicted(uint64_t answer)
 {
     return hedjosur_bits_of(answer, 20, 0xFFFFF);
 }
 
-/* A lookup: how many levels were looked at. */
+/* A lookup of the learned engine: how many levels were looked at. */
 static inline uint32_t hedjosur_levels(uint64_t answer)
 {
     return hedjosur_bits_of(answer, 40, 0xFFFF);
 }
 
-/* A lookup: how many flash reads it takes to get the page. */
+/* A lookup of the learned engine: how many flash reads it takes to get the page. */
 static inline int hedjosur_reads(uint64_t answer)
 {
     return hedjosur_found(answer) + (hedjosur_page(answer) != hedjosur_predicted(answer));
@@ -363,14 +439,20 @@ static inline int hedjosur_yes(uint64_t answer)
 }
 
 /*
- * The same calls on a device: its two buffers, with their lengths in elements. Each
- * answers the refusal, and fills what its last pointer is to where it was accepted.
+ * The same calls on a device: its two buffers, with their lengths in elements, or with
+ * the plain engine its one. Each answers the refusal, and fills what its last pointer is
+ * to where it was accepted.
  */
 struct hedjosur_device {
     uint8_t *state;
     size_t state_len;
     uint32_t *spare;
     size_t spare_len;
+};
+
+struct hedjosur_plain_device {
+    uint8_t *state;
+    size_t state_len;
 };
 
 /* Where a flush puts a batch: pages first_page to first_page + count - 1. */
@@ -390,12 +472,43 @@ struct hedjosur_place {
     int found;
 };
 
+/* The same in the plain engine. */
+struct hedjosur_plain_place {
+    uint32_t page;
+    int found;
+};
+
 /* What a collection moves, and how many blocks are to be erased after that. */
 struct hedjosur_collected {
     uint32_t first_page;
     uint32_t count;
     uint32_t erased;
 };
+
+/* A flush's answer taken apart, either engine's. */
+HEDJOSUR_LOOK_AT_IT
+static inline enum hedjosur_refusal hedjosur_flushed_of(
+    uint64_t answer, struct hedjosur_flushed *flushed)
+{
+    if (hedjosur_refusal_of(answer) == HEDJOSUR_ACCEPTED) {
+        flushed->first_page = hedjosur_first_page(answer);
+        flushed->count = hedjosur_count(answer);
+    }
+    return hedjosur_refusal_of(answer);
+}
+
+/* A collection's. */
+HEDJOSUR_LOOK_AT_IT
+static inline enum hedjosur_refusal hedjosur_collected_of(
+    uint64_t answer, struct hedjosur_collected *collected)
+{
+    if (hedjosur_refusal_of(answer) == HEDJOSUR_ACCEPTED) {
+        collected->first_page = hedjosur_first_page(answer);
+        collected->count = hedjosur_count(answer);
+        collected->erased = hedjosur_erased(answer);
+    }
+    return hedjosur_refusal_of(answer);
+}
 
 /* hedjosur_format. The driver then erases all blocks. */
 HEDJOSUR_LOOK_AT_IT
@@ -414,11 +527,7 @@ static inline enum hedjosur_refusal hedjosur_device_flush(
 {
     uint64_t answer = hedjosur_flush(device->state, device->state_len, device->spare,
                                      device->spare_len, batch, batch_len, plan, plan_len);
-    if (hedjosur_refusal_of(answer) == HEDJOSUR_ACCEPTED) {
-        flushed->first_page = hedjosur_first_page(answer);
-        flushed->count = hedjosur_count(answer);
-    }
-    return hedjosur_refusal_of(answer);
+    return hedjosur_flushed_of(answer, flushed);
 }
 
 /* hedjosur_lookup. */
@@ -454,12 +563,7 @@ static inline enum hedjosur_refusal hedjosur_device_collect(
 {
     uint64_t answer = hedjosur_collect(device->state, device->state_len, device->spare,
                                        device->spare_len, plan, plan_len, erased, erased_len);
-    if (hedjosur_refusal_of(answer) == HEDJOSUR_ACCEPTED) {
-        collected->first_page = hedjosur_first_page(answer);
-        collected->count = hedjosur_count(answer);
-        collected->erased = hedjosur_erased(answer);
-    }
-    return hedjosur_refusal_of(answer);
+    return hedjosur_collected_of(answer, collected);
 }
 
 /* hedjosur_compact, of one of HEDJOSUR_GROUPS(n) groups; records gets those left. */
@@ -495,6 +599,61 @@ static inline enum hedjosur_refusal hedjosur_device_list(
     if (hedjosur_refusal_of(answer) == HEDJOSUR_ACCEPTED)
         *records = hedjosur_records(answer);
     return hedjosur_refusal_of(answer);
+}
+
+/* hedjosur_plain_format. The driver then erases all blocks. */
+HEDJOSUR_LOOK_AT_IT
+static inline enum hedjosur_refusal hedjosur_plain_device_format(
+    const struct hedjosur_plain_device *device,
+    uint32_t m, uint32_t b, uint32_t n, uint32_t g)
+{
+    return hedjosur_refusal_of(
+        hedjosur_plain_format(m, b, n, g, device->state, device->state_len));
+}
+
+/* hedjosur_plain_flush. The driver then programs the pages by the plan. */
+HEDJOSUR_LOOK_AT_IT
+static inline enum hedjosur_refusal hedjosur_plain_device_flush(
+    const struct hedjosur_plain_device *device, const uint32_t *batch, size_t batch_len,
+    uint32_t *plan, size_t plan_len, struct hedjosur_flushed *flushed)
+{
+    uint64_t answer = hedjosur_plain_flush(device->state, device->state_len,
+                                           batch, batch_len, plan, plan_len);
+    return hedjosur_flushed_of(answer, flushed);
+}
+
+/* hedjosur_plain_lookup. */
+HEDJOSUR_LOOK_AT_IT
+static inline enum hedjosur_refusal hedjosur_plain_device_lookup(
+    const struct hedjosur_plain_device *device, uint32_t page,
+    struct hedjosur_plain_place *place)
+{
+    uint64_t answer = hedjosur_plain_lookup(device->state, device->state_len, page);
+    if (hedjosur_refusal_of(answer) == HEDJOSUR_ACCEPTED) {
+        place->page = hedjosur_page(answer);
+        place->found = hedjosur_found(answer);
+    }
+    return hedjosur_refusal_of(answer);
+}
+
+/* hedjosur_plain_discard. */
+HEDJOSUR_LOOK_AT_IT
+static inline enum hedjosur_refusal hedjosur_plain_device_discard(
+    const struct hedjosur_plain_device *device, uint32_t page)
+{
+    return hedjosur_refusal_of(
+        hedjosur_plain_discard(device->state, device->state_len, page));
+}
+
+/* hedjosur_plain_collect. The driver then copies pages by the plan and erases blocks. */
+HEDJOSUR_LOOK_AT_IT
+static inline enum hedjosur_refusal hedjosur_plain_device_collect(
+    const struct hedjosur_plain_device *device, uint32_t *plan, size_t plan_len,
+    uint32_t *erased, size_t erased_len, struct hedjosur_collected *collected)
+{
+    uint64_t answer = hedjosur_plain_collect(device->state, device->state_len,
+                                             plan, plan_len, erased, erased_len);
+    return hedjosur_collected_of(answer, collected);
 }
 
 #ifdef __cplusplus

@@ -158,6 +158,9 @@ mod tests {
             Lookup::unpacked(0x0002_0000_0000_0000),
             Lookup::NotWritten { levels: 512 }
         );
+        // The plain engine's has neither a predicted page nor levels.
+        let plain = Lookup::unpacked(0x0100_0000_000F_FFFF);
+        assert_eq!(plain.page(), Some(1_048_575));
         assert_eq!(
             Collected::unpacked(0x0010_0000_100F_FF00),
             Collected {

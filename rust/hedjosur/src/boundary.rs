@@ -81,6 +81,39 @@ extern "C" {
         out: *mut u8,
         out_len: usize,
     ) -> u64;
+
+    fn hedjosur_plain_state_len(m: u32, b: u32, n: u32, g: u32) -> u64;
+
+    fn hedjosur_plain_format(
+        m: u32,
+        b: u32,
+        n: u32,
+        g: u32,
+        state: *mut u8,
+        state_len: usize,
+    ) -> u64;
+
+    fn hedjosur_plain_flush(
+        state: *mut u8,
+        state_len: usize,
+        batch: *const u32,
+        batch_len: usize,
+        plan: *mut u32,
+        plan_len: usize,
+    ) -> u64;
+
+    fn hedjosur_plain_lookup(state: *const u8, state_len: usize, page: u32) -> u64;
+
+    fn hedjosur_plain_discard(state: *mut u8, state_len: usize, page: u32) -> u64;
+
+    fn hedjosur_plain_collect(
+        state: *mut u8,
+        state_len: usize,
+        plan: *mut u32,
+        plan_len: usize,
+        erased: *mut u32,
+        erased_len: usize,
+    ) -> u64;
 }
 
 #[inline]
@@ -218,6 +251,62 @@ pub(crate) fn list(state: &[u8], group: u32, out: &mut [u8]) -> u64 {
             group,
             out.as_mut_ptr(),
             out.len(),
+        )
+    }
+}
+
+#[inline]
+pub(crate) fn plain_state_len(numbers: Numbers) -> u64 {
+    let [m, b, n, g] = numbers.in_order();
+    // SAFETY: numbers alone.
+    unsafe { hedjosur_plain_state_len(m, b, n, g) }
+}
+
+#[inline]
+pub(crate) fn plain_format(numbers: Numbers, state: &mut [u8]) -> u64 {
+    let [m, b, n, g] = numbers.in_order();
+    // SAFETY: a borrowed slice, for writing.
+    unsafe { hedjosur_plain_format(m, b, n, g, state.as_mut_ptr(), state.len()) }
+}
+
+#[inline]
+pub(crate) fn plain_flush(state: &mut [u8], batch: &[u32], plan: &mut [u32]) -> u64 {
+    // SAFETY: three borrowed slices, all but the batch for writing.
+    unsafe {
+        hedjosur_plain_flush(
+            state.as_mut_ptr(),
+            state.len(),
+            batch.as_ptr(),
+            batch.len(),
+            plan.as_mut_ptr(),
+            plan.len(),
+        )
+    }
+}
+
+#[inline]
+pub(crate) fn plain_lookup(state: &[u8], page: u32) -> u64 {
+    // SAFETY: a borrowed slice.
+    unsafe { hedjosur_plain_lookup(state.as_ptr(), state.len(), page) }
+}
+
+#[inline]
+pub(crate) fn plain_discard(state: &mut [u8], page: u32) -> u64 {
+    // SAFETY: a borrowed slice, for writing.
+    unsafe { hedjosur_plain_discard(state.as_mut_ptr(), state.len(), page) }
+}
+
+#[inline]
+pub(crate) fn plain_collect(state: &mut [u8], plan: &mut [u32], erased: &mut [u32]) -> u64 {
+    // SAFETY: three borrowed slices, all for writing.
+    unsafe {
+        hedjosur_plain_collect(
+            state.as_mut_ptr(),
+            state.len(),
+            plan.as_mut_ptr(),
+            plan.len(),
+            erased.as_mut_ptr(),
+            erased.len(),
         )
     }
 }

@@ -1,6 +1,6 @@
-//! Hedjosur, a learned page table for raw flash, for Rust: a flash translation
-//! layer whose every function is proved, behind a safe interface without
-//! allocation.
+//! Hedjosur, a learned page table for raw flash and a plain one beside it, for Rust: a
+//! flash translation layer whose every function is proved, behind a safe interface
+//! without allocation.
 //!
 //! A driver owns the flash. It lends this table two buffers, the state and the
 //! spare area, and is told where pages go and where they are:
@@ -44,14 +44,25 @@
 //! ```
 //!
 //! `examples/gateway.rs` is a driver in full: a chip, a flush by the plan, a
-//! collection, a read.
+//! collection, a read; `examples/recorder.rs` is one with the plain engine.
+//!
+//! # Which engine
+//!
+//! [`Plain`] is a table of one page number for each logical page. From a format, the
+//! same calls give the same pages, plans, erased lists and refusals as a [`Device`]'s.
+//! Take it where 4 bytes for each logical page are to spare: it is lent less than the
+//! learned one, needs no out-of-band bytes and answers a lookup at once, but all of its
+//! bytes are in use, and a flush or a collection goes over all of them, with 145 KB of
+//! stack. Take [`Device`] where the stack is small, or where the bytes in use have to be
+//! few, because the table is stored or sent: logical pages that are neighbours and are
+//! written together share a record.
 //!
 //! # What a driver has to know
 //!
 //! - **The spare area** is what the chip's out-of-band bytes hold, as the driver
 //!   mirrors it in memory: 2g + 1 numbers for each page. A format, a flush and a
 //!   collection change it; the driver programs a page's numbers together with its
-//!   data, in a byte order of its own choice.
+//!   data, in a byte order of its own choice. The plain engine is lent none.
 //! - **After a format** all blocks have to be erased. After that a flush always opens
 //!   a block that is erased already: those that a collection lists are erased by the
 //!   driver once the pages are copied.
@@ -86,11 +97,15 @@ mod answers;
 mod boundary;
 mod device;
 mod listing;
+mod numbers;
+mod plain;
 mod refusal;
 
 pub use answers::{Collected, Flushed, Lookup};
-pub use device::{Device, Numbers};
+pub use device::Device;
 pub use listing::{Kind, Listing, Record, LISTING_LEN};
+pub use numbers::Numbers;
+pub use plain::Plain;
 pub use refusal::Refusal;
 
 /// The version of this crate, of the header and of the archive's interface.

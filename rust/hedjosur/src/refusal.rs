@@ -87,7 +87,9 @@ refusals! {
         /// 2: a lent slice hasn't the length that the device numbers give.
         BadLength = 2: "a lent slice has a length that doesn't fit the device numbers",
         /// 3: the state, or the group looked at, is not sound: no list of calls makes
-        /// it.
+        /// it. In a [`Plain`](crate::Plain) device it is an entry that is neither
+        /// 4,294,967,295 nor a written page, for a lookup or a discard their own; for a
+        /// flush or a collection also two entries naming one page, or a count above B.
         NotSound = 3: "the table's bytes are damaged (not sound)",
         /// 4: a logical page is N or more, or there is no such group.
         OutOfRange = 4: "there is no such logical page or group",
@@ -96,6 +98,7 @@ refusals! {
         /// 6: too few blocks are free; a collection may help.
         NoFreeBlock = 6: "too few blocks are free",
         /// 7: the spare area doesn't name the logical page where the table expects it.
+        /// A [`Plain`](crate::Plain) device has no spare area and never refuses this.
         NotNamed = 7: "the spare area doesn't name the logical page",
         /// 8: a collection would free no block.
         NothingToGain = 8: "a collection would free no block",

@@ -5,6 +5,10 @@ use std::process::{Command, Output};
 
 use hedjosur::Refusal;
 
+#[allow(dead_code)]
+#[path = "../examples/recorder.rs"]
+mod recorder;
+
 const C99: &[&str] = &["cc", "-std=c99"];
 const C11: &[&str] = &["cc", "-std=c11"];
 const CPP: &[&str] = &["c++", "-std=c++11", "-x", "c++"];
@@ -118,10 +122,18 @@ fn the_gateway_in_c() {
     assert_eq!((lines.len(), lines[0]), (2, refused));
 }
 
+/// Line by line what the recorder in Rust says.
+#[test]
+fn the_recorder_in_c() {
+    let said = recorder::ten_years().expect("no call is refused for good");
+    assert_eq!(ran(C99, &[], "examples/recorder.c"), said);
+    assert_eq!(said.lines().count(), 11);
+}
+
 /// Bound at the start, so that a call doesn't pay for the linker.
 #[test]
 fn the_stack_of_each_call() {
     let printed = ran(C11, &["-pthread", "-Wl,-z,now"], "tests/stack.c");
     println!("bytes of stack, measured and allowed:\n{printed}");
-    assert_eq!(printed.lines().count(), 9);
+    assert_eq!(printed.lines().count(), 14);
 }

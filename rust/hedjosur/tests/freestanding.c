@@ -33,6 +33,7 @@ void _start(void)
 {
     static uint8_t state[HEDJOSUR_STATE_LEN(3, 4, 4, 0)], out[HEDJOSUR_LISTING_LEN];
     static uint32_t spare[HEDJOSUR_SPARE_LEN(3, 4, 4, 0)], plan[4], erased[3];
+    static uint8_t plain[HEDJOSUR_PLAIN_STATE_LEN(3, 4, 4, 0)];
     static volatile uint64_t answer;
 
     answer = hedjosur_state_len(3, 4, 4, 0);
@@ -45,6 +46,12 @@ void _start(void)
     answer = hedjosur_compact(state, sizeof state, 0);
     answer = hedjosur_agree(state, sizeof state, spare, 12, state, sizeof state, spare, 12);
     answer = hedjosur_list(state, sizeof state, 0, out, sizeof out);
+    answer = hedjosur_plain_state_len(3, 4, 4, 0);
+    answer = hedjosur_plain_format(3, 4, 4, 0, plain, sizeof plain);
+    answer = hedjosur_plain_flush(plain, sizeof plain, plan, 1, plan + 1, 3);
+    answer = hedjosur_plain_lookup(plain, sizeof plain, 0);
+    answer = hedjosur_plain_discard(plain, sizeof plain, 0);
+    answer = hedjosur_plain_collect(plain, sizeof plain, plan, 4, erased, 3);
     for (;;)
         (void)answer;
 }

@@ -30,6 +30,8 @@ static const struct hedjosur_device device = {state, sizeof state, spare, COUNT(
 static const struct hedjosur_device other = {
     other_state, sizeof other_state, other_spare, COUNT(other_spare)
 };
+static uint8_t plain_state[HEDJOSUR_PLAIN_STATE_LEN(3, 4, 4, 0)];
+static const struct hedjosur_plain_device plain = {plain_state, sizeof plain_state};
 
 /* The macros' lengths are the functions', at all limits and beside them. */
 static int lengths(void)
@@ -51,6 +53,8 @@ static int lengths(void)
                     uint32_t n = logical[l];
                     CHECK(HEDJOSUR_STATE_LEN(m, b, n, g) == hedjosur_state_len(m, b, n, g));
                     CHECK(HEDJOSUR_SPARE_LEN(m, b, n, g) == hedjosur_spare_len(m, b, n, g));
+                    CHECK(HEDJOSUR_PLAIN_STATE_LEN(m, b, n, g) ==
+                          hedjosur_plain_state_len(m, b, n, g));
                 }
             }
     CHECK(HEDJOSUR_GROUPS(256) == 1 && HEDJOSUR_GROUPS(257) == 2);
@@ -101,6 +105,44 @@ static int calls(void)
     return 0;
 }
 
+/* The same case in the plain engine, and an entry that is not sound. */
+static int plain_calls(void)
+{
+    static const uint32_t page[] = {0};
+    uint32_t plan[4], erased[3];
+    struct hedjosur_flushed flushed = {7, 7};
+    struct hedjosur_plain_place place = {7, 7};
+    struct hedjosur_collected collected = {7, 7, 7};
+
+    CHECK(sizeof plain_state == 38);
+    CHECK(hedjosur_plain_device_format(&plain, 3, 4, 5, 0) == HEDJOSUR_BAD_NUMBERS);
+    CHECK(hedjosur_plain_device_format(&plain, 3, 4, 4, 0) == HEDJOSUR_ACCEPTED);
+    CHECK(hedjosur_plain_device_lookup(&plain, 0, &place) == HEDJOSUR_ACCEPTED);
+    CHECK(!place.found && place.page == 0);
+    CHECK(hedjosur_plain_device_flush(&plain, page, 1, plan, 4, &flushed) == HEDJOSUR_ACCEPTED);
+    CHECK(flushed.first_page == 0 && flushed.count == 1 && plan[0] == 0);
+    CHECK(hedjosur_plain_device_flush(&plain, page, 1, plan, 4, &flushed) == HEDJOSUR_ACCEPTED);
+    CHECK(hedjosur_plain_device_flush(&plain, page, 1, plan, 4, &flushed) == HEDJOSUR_NO_FREE_BLOCK);
+    CHECK(flushed.first_page == 4);
+    CHECK(hedjosur_plain_device_collect(&plain, plan, 4, erased, 2, &collected) == HEDJOSUR_BAD_LENGTH);
+    CHECK(collected.count == 7);
+    CHECK(hedjosur_plain_device_collect(&plain, plan, 4, erased, 3, &collected) == HEDJOSUR_ACCEPTED);
+    CHECK(collected.first_page == 8 && collected.count == 1 && collected.erased == 2);
+    CHECK(plan[0] == 4 && erased[0] == 0 && erased[1] == 1);
+    CHECK(hedjosur_plain_device_lookup(&plain, 4, &place) == HEDJOSUR_OUT_OF_RANGE);
+    CHECK(hedjosur_plain_device_lookup(&plain, 0, &place) == HEDJOSUR_ACCEPTED);
+    CHECK(place.found && place.page == 8 && plain_state[20] == 1 && plain_state[22] == 8);
+    CHECK(hedjosur_plain_device_discard(&plain, 4) == HEDJOSUR_OUT_OF_RANGE);
+    CHECK(hedjosur_plain_device_discard(&plain, 0) == HEDJOSUR_ACCEPTED);
+    CHECK(hedjosur_plain_device_lookup(&plain, 0, &place) == HEDJOSUR_ACCEPTED);
+    CHECK(!place.found && place.page == 0);
+    memset(plain_state + 22, 0, 4);
+    CHECK(hedjosur_plain_device_lookup(&plain, 0, &place) == HEDJOSUR_NOT_SOUND);
+    CHECK(hedjosur_plain_device_lookup(&plain, 1, &place) == HEDJOSUR_ACCEPTED);
+    CHECK(hedjosur_plain_device_flush(&plain, page, 0, plan, 4, &flushed) == HEDJOSUR_NOT_SOUND);
+    return 0;
+}
+
 static int words(void)
 {
     char version[16];
@@ -134,5 +176,5 @@ void ignored(void)
 
 int main(void)
 {
-    return lengths() || calls() || words() || accessors_insist();
+    return lengths() || calls() || plain_calls() || words() || accessors_insist();
 }

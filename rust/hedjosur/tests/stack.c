@@ -5,7 +5,8 @@
  *
  * What is measured is the most over histories that take the long ways: the largest
  * blocks, all bounds' extremes, groups so full that a flush compacts them, blocks
- * enough for a collection.
+ * enough for a collection; for the plain engine devices on both sides of where the bits
+ * for its pages become more.
  */
 #define _POSIX_C_SOURCE 200809L
 
@@ -18,14 +19,17 @@
 #define STACK (512 * 1024)
 #define PAINT UINT64_C(0x5AA5C33C0FF0F00F)
 
-/* The calls, in the order of the header. */
-enum call { LEN, FORMAT, FLUSH, LOOKUP, DISCARD, COLLECT, COMPACT, AGREE, LIST, CALLS };
+/* The calls, in the order of the header's limits. */
+enum call {
+    LEN, FORMAT, FLUSH, LOOKUP, DISCARD, COLLECT, COMPACT, AGREE, LIST,
+    PLAIN_FORMAT, PLAIN_LOOKUP, PLAIN_DISCARD, PLAIN_FLUSH, PLAIN_COLLECT, CALLS
+};
 
 static const struct {
     const char *name;
     size_t limit;
 } table[CALLS] = {
-    [LEN] = {"state_len, spare_len", HEDJOSUR_STACK_LEN},
+    [LEN] = {"the lengths", HEDJOSUR_STACK_LEN},
     [FORMAT] = {"format", HEDJOSUR_STACK_FORMAT},
     [FLUSH] = {"flush", HEDJOSUR_STACK_FLUSH},
     [LOOKUP] = {"lookup", HEDJOSUR_STACK_LOOKUP},
@@ -34,6 +38,11 @@ static const struct {
     [COMPACT] = {"compact", HEDJOSUR_STACK_COMPACT},
     [AGREE] = {"agree", HEDJOSUR_STACK_AGREE},
     [LIST] = {"list", HEDJOSUR_STACK_LIST},
+    [PLAIN_FORMAT] = {"plain format", HEDJOSUR_STACK_PLAIN_FORMAT},
+    [PLAIN_LOOKUP] = {"plain lookup", HEDJOSUR_STACK_PLAIN_LOOKUP},
+    [PLAIN_DISCARD] = {"plain discard", HEDJOSUR_STACK_PLAIN_DISCARD},
+    [PLAIN_FLUSH] = {"plain flush", HEDJOSUR_STACK_PLAIN_FLUSH},
+    [PLAIN_COLLECT] = {"plain collect", HEDJOSUR_STACK_PLAIN_COLLECT},
 };
 
 static size_t measured[CALLS];
@@ -80,6 +89,16 @@ static uint64_t answer;
         note(call, from);                   \
     } while (0)
 
+/* Ends where the last call was refused. */
+static void accepted(void)
+{
+    enum hedjosur_refusal refusal = hedjosur_refusal_of(answer);
+    if (refusal != HEDJOSUR_ACCEPTED) {
+        fprintf(stderr, "%s\n", hedjosur_refusal_text(refusal));
+        exit(1);
+    }
+}
+
 static uint64_t random_state = 1;
 
 static uint32_t below(uint32_t bound)
@@ -123,10 +142,7 @@ static void history(uint32_t m, uint32_t b, uint32_t g, int flushes)
         MEASURED(FLUSH, hedjosur_flush(state, state_len, spare, spare_len, batch, length, plan, b));
         if (hedjosur_refusal_of(answer) == HEDJOSUR_NO_FREE_BLOCK)
             MEASURED(COLLECT, hedjosur_collect(state, state_len, spare, spare_len, plan, b, erased, m));
-        if (hedjosur_refusal_of(answer) != HEDJOSUR_ACCEPTED) {
-            fprintf(stderr, "%s\n", hedjosur_refusal_text(hedjosur_refusal_of(answer)));
-            exit(1);
-        }
+        accepted();
         MEASURED(LOOKUP, hedjosur_lookup(state, state_len, spare, spare_len, below(n)));
         MEASURED(DISCARD, hedjosur_discard(state, state_len, spare, spare_len, below(n)));
         MEASURED(LIST, hedjosur_list(state, state_len, below(n) / 256, listing, sizeof listing));
@@ -143,6 +159,38 @@ static void history(uint32_t m, uint32_t b, uint32_t g, int flushes)
     free(plan);
 }
 
+/*
+ * The same in the plain engine. Every second flush writes a single page, so that there
+ * are blocks for a collection to take.
+ */
+static void plain_history(uint32_t m, uint32_t b, int flushes)
+{
+    uint32_t n = (m - 1) * b / 2;
+    size_t state_len = HEDJOSUR_PLAIN_STATE_LEN(m, b, n, 0);
+    uint8_t *state = malloc(state_len);
+    uint32_t *erased = malloc(4 * m), *plan = malloc(4 * b);
+    uint32_t batch[256];
+
+    if (!state || !erased || !plan)
+        exit(1);
+    MEASURED(LEN, hedjosur_plain_state_len(m, b, n, 0));
+    MEASURED(PLAIN_FORMAT, hedjosur_plain_format(m, b, n, 0, state, state_len));
+    for (int i = 0; i < flushes; i++) {
+        size_t length = i % 2 == 1 ? 1 : make_batch(batch, b, n, (uint32_t)i % 5);
+        MEASURED(PLAIN_FLUSH, hedjosur_plain_flush(state, state_len, batch, length, plan, b));
+        if (hedjosur_refusal_of(answer) == HEDJOSUR_NO_FREE_BLOCK)
+            MEASURED(PLAIN_COLLECT, hedjosur_plain_collect(state, state_len, plan, b, erased, m));
+        accepted();
+        MEASURED(PLAIN_LOOKUP, hedjosur_plain_lookup(state, state_len, batch[0]));
+        MEASURED(PLAIN_DISCARD, hedjosur_plain_discard(state, state_len, below(n)));
+        if (i % 16 == 15)
+            MEASURED(PLAIN_COLLECT, hedjosur_plain_collect(state, state_len, plan, b, erased, m));
+    }
+    free(state);
+    free(erased);
+    free(plan);
+}
+
 static void *histories(void *unused)
 {
     history(3, 4, 0, 50);
@@ -151,6 +199,13 @@ static void *histories(void *unused)
     history(33, 256, 0, 400);
     history(33, 256, 15, 400);
     history(4096, 256, 0, 48);
+    plain_history(3, 4, 50);
+    plain_history(33, 256, 400);
+    plain_history(128, 256, 48);
+    plain_history(129, 256, 48);
+    plain_history(1024, 256, 48);
+    plain_history(1025, 256, 48);
+    plain_history(4096, 256, 48);
     return unused;
 }
 

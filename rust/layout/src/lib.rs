@@ -6,6 +6,8 @@
 //! - [`encode_record`], [`encode_group`], [`encode_state`]: what is written
 //! - [`decode_group`]: the group that bytes encode, if they encode one;
 //!   [`read_group`], [`read_state`]: what any bytes are read as
+//! - [`encode_plain_state`], [`decode_plain_state`], [`read_plain_state`]: the same for
+//!   the plain engine's state
 
 #![forbid(unsafe_code)]
 #![warn(missing_docs)]
@@ -13,6 +15,7 @@
 mod group;
 mod marks;
 mod places;
+mod plain;
 mod record;
 mod state;
 
@@ -21,6 +24,9 @@ pub use places::{
     groups_at, marks_at, owner_at, put_u16, state_bytes, u16_at, Part, COUNT_BYTES, GROUP_BYTES,
     HEAD_BYTES, LEVEL_AT, OWNED_AT, OWNERS_AT, OWNER_BYTES, RECORD_BYTES, SLOTS_AT, SLOT_BYTES,
     USED_AT, WORD_AT,
+};
+pub use plain::{
+    decode_plain_state, encode_plain_state, entries_at, read_plain_state, ENTRY_BYTES,
 };
 pub use record::encode_record;
 pub use state::{encode_state, read_state};

@@ -1,6 +1,6 @@
 //! A model of Hedjosur, the gateway's learned page table.
 //!
-//! The model says what document 01 says, and requests a to c of document 02, in
+//! The model says what document 01 says, and requests a to d of document 02, in
 //! vectors and sets instead of bytes, plainly and slowly. Its modules follow
 //! document 01's sections:
 //!
@@ -10,6 +10,7 @@
 //! - [`learn`]: learning a batch
 //! - [`levels`]: the levels of a group, and [`sound`]: when a group is sound
 //! - [`ops`]: the operations, each with its refusals in order
+//! - [`plain`]: the plain engine of request d, with operations of its own
 //! - [`book`]: what each page carries, told from calls and answers alone
 //! - [`script`]: the listing program, and [`cases`]: the document's cases
 //!
@@ -24,6 +25,7 @@ pub mod device;
 pub mod learn;
 pub mod levels;
 pub mod ops;
+pub mod plain;
 pub mod record;
 pub mod script;
 pub mod sound;

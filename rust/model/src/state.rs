@@ -10,6 +10,8 @@
 //! device's number of groups. Two devices may give one length; then a slice has
 //! room as the device has that the call is about. A length that no device gives
 //! is a state with no group at all.
+//!
+//! The plain engine's slice is lent alike; [`crate::plain`] says what it holds.
 
 use crate::device::Device;
 use crate::levels::Group;
@@ -17,11 +19,20 @@ use crate::ops::{require, Refusal};
 
 /// A state slice as a call receives it, of any length and with any contents.
 #[derive(Clone, Debug, PartialEq, Eq)]
-pub enum Lent {
+pub enum Lent<C = State> {
     /// Too short to hold the device numbers.
     Short,
     /// Long enough for the device numbers.
-    Held(State),
+    Held(C),
+}
+
+/// What refusals 1 and 2 look at in the contents of a state slice.
+pub trait Contents {
+    /// M, B, N and g.
+    fn numbers(&self) -> [u32; 4];
+
+    /// Whether the slice has exactly the length that `device` gives.
+    fn fits(&self, device: &Device) -> bool;
 }
 
 /// The contents of a state slice. Nothing here needs to be inside limits,
@@ -47,26 +58,56 @@ impl Lent {
             ..State::formatted(device)
         })
     }
+}
 
+impl<C: Contents> Lent<C> {
     /// The device and the state, or what 'every other operation refuses': '1
     /// when the state is too short to hold the device numbers or they are
     /// outside limits, and 2 when a lent slice has a wrong length'.
-    pub fn open(&self) -> Result<(Device, &State), Refusal> {
+    pub fn open(&self) -> Result<(Device, &C), Refusal> {
         let Lent::Held(state) = self else {
             return Err(Refusal::BadNumbers);
         };
-        let device = Device::new(state.numbers).ok_or(Refusal::BadNumbers)?;
+        let device = Device::new(state.numbers()).ok_or(Refusal::BadNumbers)?;
         require(state.fits(&device), Refusal::BadLength)?;
         Ok((device, state))
     }
 
     /// As [`Lent::open`], for an operation that writes the state.
-    pub fn open_mut(&mut self) -> Result<(Device, &mut State), Refusal> {
+    pub fn open_mut(&mut self) -> Result<(Device, &mut C), Refusal> {
         let (device, _) = self.open()?;
+        Ok((device, self.held_mut()))
+    }
+
+    /// The contents, of a slice that is long enough to hold the device numbers.
+    pub fn held_mut(&mut self) -> &mut C {
         match self {
-            Lent::Held(state) => Ok((device, state)),
-            Lent::Short => Err(Refusal::BadNumbers),
+            Lent::Held(state) => state,
+            Lent::Short => panic!("the state is too short"),
         }
+    }
+
+    /// The device of these numbers and the state, whatever it holds, or what format
+    /// refuses: '1 when a device number is outside its limits, then 2 when state
+    /// [...] hasn't exactly the length these numbers give'.
+    pub fn open_for_format(&mut self, numbers: [u32; 4]) -> Result<(Device, &mut C), Refusal> {
+        let device = Device::new(numbers).ok_or(Refusal::BadNumbers)?;
+        match self {
+            Lent::Held(state) if state.fits(&device) => Ok((device, state)),
+            _ => Err(Refusal::BadLength),
+        }
+    }
+}
+
+impl Contents for State {
+    fn numbers(&self) -> [u32; 4] {
+        self.numbers
+    }
+
+    fn fits(&self, device: &Device) -> bool {
+        self.counts.len() == device.blocks as usize
+            && self.marks.len() == device.mark_bits()
+            && self.groups.len() == device.groups()
     }
 }
 
@@ -80,27 +121,20 @@ impl State {
             groups: vec![Group::default(); device.groups()],
         }
     }
+}
 
-    /// Whether the slice has exactly the length that `device` gives.
-    pub fn fits(&self, device: &Device) -> bool {
-        self.counts.len() == device.blocks as usize
-            && self.marks.len() == device.mark_bits()
-            && self.groups.len() == device.groups()
-    }
+/// The free blocks, ascending.
+pub fn free_blocks(counts: &[u32]) -> Vec<u32> {
+    blocks_where(counts, |count| count == 0)
+}
 
-    /// The free blocks, ascending.
-    pub fn free_blocks(&self) -> Vec<u32> {
-        self.blocks_where(|count| count == 0)
-    }
+/// The used blocks, ascending.
+pub fn used_blocks(counts: &[u32]) -> Vec<u32> {
+    blocks_where(counts, |count| count != 0)
+}
 
-    /// The used blocks, ascending.
-    pub fn used_blocks(&self) -> Vec<u32> {
-        self.blocks_where(|count| count != 0)
-    }
-
-    fn blocks_where(&self, wanted: impl Fn(u32) -> bool) -> Vec<u32> {
-        (0..self.counts.len() as u32)
-            .filter(|&block| wanted(self.counts[block as usize]))
-            .collect()
-    }
+fn blocks_where(counts: &[u32], wanted: impl Fn(u32) -> bool) -> Vec<u32> {
+    (0..counts.len() as u32)
+        .filter(|&block| wanted(counts[block as usize]))
+        .collect()
 }

@@ -6,6 +6,7 @@ use std::collections::BTreeSet;
 use hedjosur_model::device::Device;
 use hedjosur_model::ops;
 use hedjosur_model::spare::{self, NOBODY};
+use hedjosur_model::state::free_blocks;
 use hedjosur_model::testing::{
     any_area, batch, full_device, lists, rounds, small_device, Random, World,
 };
@@ -208,7 +209,7 @@ fn a_pass_stop_by_stop() {
 fn any_world(random: &mut Random, device: &Device) -> World {
     let mut world = World::lived_in(random, device);
     let length = world.area.len() / device.blocks as usize;
-    for block in world.state_mut().free_blocks() {
+    for block in free_blocks(&world.state_mut().counts) {
         let garbage = garbage(random, length);
         world.area[block as usize * length..][..length].copy_from_slice(&garbage);
     }

@@ -1,6 +1,6 @@
 -- The answer, packed, whatever state and spare area are.
 use borrow.Author.Needs.{needs}
-use Rattle.state.specs.Answers.{agreeAnswer}
+use Rattle.answers.specs.Answers.{agreeAnswer}
 use Rattle.export.proofs.hedjosur_agree.Statement.{statement}
 use Rattle.export.proofs.hedjosur_agree.Tie as tie
 

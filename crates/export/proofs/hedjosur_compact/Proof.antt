@@ -1,6 +1,6 @@
 -- The answer, packed, whatever the spare area is; what stays is compaction's own.
 use borrow.Author.Needs.{needs}
-use Rattle.state.specs.Answers.{compactAnswer}
+use Rattle.answers.specs.Answers.{compactAnswer}
 use Rattle.export.proofs.hedjosur_compact.Statement.{statement}
 use Rattle.export.proofs.hedjosur_compact.Tie as tie
 

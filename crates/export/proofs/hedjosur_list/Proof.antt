@@ -1,6 +1,6 @@
 -- The answer, packed, whatever the spare area is.
 use borrow.Author.Needs.{needs}
-use Rattle.state.specs.Answers.{listAnswer}
+use Rattle.answers.specs.Answers.{listAnswer}
 use Rattle.export.proofs.hedjosur_list.Statement.{statement}
 use Rattle.export.proofs.hedjosur_list.Tie as tie
 

@@ -1,6 +1,6 @@
 -- The state is opened or not; then each refusal, in order, by what its test was of. Assumes nothing.
 use mathlib.Core.Path.{_≡_, refl, sym, ap, _∙_}
-use mathlib.Core.List.{[]}
+use mathlib.Core.List.{List, []}
 use mathlib.Core.Option.{none}
 use mathlib.Core.Bool.{not}
 use Prim.Native.Nat.{ℕ}
@@ -14,12 +14,14 @@ use Rattle.calls.specs.Refusals.{firstRefusal, openingWith}
 use Rattle.calls.specs.Flush.{flushChecks}
 use Rattle.calls.specs.History.{lend}
 use Rattle.calls.proofs.Refusing.{ClearTo, front-refuses, refuses-at, is-clear, right-length, wrong-length}
-use Rattle.spare.specs.Read.{numbersOf}
+use Rattle.front.specs.Read.{numbersOf}
+use Rattle.answers.specs.Answers.{refusalOf}
+use Rattle.answers.specs.Opening.{verdictOf}
+use Rattle.answers.proofs.Verdicts.{says-refused, says-passed, refused-first, passed-all}
 use Rattle.state.specs.Reading.{readState}
 use Rattle.state.specs.Shaped.{Shaped}
-use Rattle.state.specs.Answers.{refusalOf}
-use Rattle.state.specs.Opening.{verdictOf}
-use Rattle.state.proofs.Refusing.{says-refused, says-passed, refused-first, passed-all, opened-with}
+use Rattle.state.proofs.Shaping.{front-in, counts-are}
+use Rattle.state.proofs.Refusing.{opened-with}
 use Rattle.flush.proofs.Checking.{rest, to-rest}
 use Rattle.flush.proofs.check.Statement.{statement}
 use Rattle.flush.proofs.check.Tie as tie
@@ -78,6 +80,10 @@ passed₄ c =
     let p = passed₃ (c .before .before) in
     (p .0, (p .1 .0, (p .1 .1 .0, (ap not (sym (c .before .all-below .ensures) ∙ not-false (c .before .all-below .result) (c .if4 .left)), tt))))
 
+-- the free blocks are those of the state
+counted : (c : tie.After-free-count) → c .free-count .result ≡ free (opened₄ (c .before))
+counted c = c .free-count .ensures ∙ ap (λ (cs : List ℕ). length (freeBlocks 0 cs)) (sym (counts-are _ _ (shape (opened₄ (c .before)))))
+
 returns : tie.Need-returns
 unfolding verdictOf flushChecks lend
 returns c = says-refused _ _ (front-refuses _ _ (refused-first _ _ _ (c .before .before .before .open-with-spare .ensures) _ (c .before .opened2 .given .1)))
@@ -108,16 +114,16 @@ returns-6 : tie.Need-returns-6
 unfolding verdictOf refusalOf
 returns-6 c =
     let k = c .before .before in
-    says-refused _ _ (left (opened₄ k) ∙ refuses-at 4 _ refl (passed₄ k) (lt-ltb (free (opened₄ k)) 2 (omega (arith, c .if5 .taken, c .before .free-count .ensures))))
+    says-refused _ _ (left (opened₄ k) ∙ refuses-at 4 _ refl (passed₄ k) (lt-ltb (free (opened₄ k)) 2 (omega (arith, c .if5 .taken, counted (c .before)))))
 
 returns-7 : tie.Need-returns-7
 unfolding verdictOf
 returns-7 c =
     let k = c .before .before in
     let p = passed₄ k in
-    says-passed _ _ (left (opened₄ k) ∙ is-clear _ (p .0, (p .1 .0, (p .1 .1 .0, (p .1 .1 .1 .0, (le-ltb (free (opened₄ k)) 2 (omega (arith, c .if5 .left, c .before .free-count .ensures)), tt)))))) (sym (passed (opened₄ k) .1))
+    says-passed _ _ (left (opened₄ k) ∙ is-clear _ (p .0, (p .1 .0, (p .1 .1 .0, (p .1 .1 .1 .0, (le-ltb (free (opened₄ k)) 2 (omega (arith, c .if5 .left, counted (c .before))), tt)))))) (sym (passed (opened₄ k) .1))
 
 pub check-spec : {M : Type 1} → statement M
 check-spec = tie.close (tie.spec (λ c κs. search needs) (λ c. search needs) (λ c. search needs) returns
     (λ c. search needs) returns-2 (λ c κs. shape (opened₁ c)) returns-3 (λ c κs. search needs) returns-4
-    (λ c κs. search needs) returns-5 (λ c κs. shape (opened₄ c)) returns-6 returns-7)
+    (λ c κs. search needs) returns-5 (λ c κs. front-in _ _ (shape (opened₄ c))) returns-6 returns-7)

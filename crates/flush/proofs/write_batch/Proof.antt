@@ -8,7 +8,7 @@ use borrow.Author.Needs.{needs}
 use lib.ListN.{length}
 use Rattle.model.specs.Lists.{ascending, store}
 use Rattle.model.proofs.Limits.{limits}
-use Rattle.spare.specs.Read.{numbersOf}
+use Rattle.front.specs.Read.{numbersOf}
 use Rattle.sorting.proofs.Ascending.{ascending-length, ascending-logicals, ascending-sources}
 use Rattle.state.specs.Reading.{readState}
 use Rattle.flush.specs.Written.{Admitted}

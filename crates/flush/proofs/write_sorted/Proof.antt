@@ -8,10 +8,11 @@ use lib.Seq.{length-take-le}
 use Rattle.model.specs.Learning.{sorted, logicals}
 use Rattle.model.proofs.Limits.{Limits, limits}
 use Rattle.model.proofs.Sorting.{logicals-length, sorted-length}
-use Rattle.spare.specs.Read.{numbersOf}
+use Rattle.front.specs.Read.{numbersOf}
+use Rattle.front.proofs.Within.{room-small}
+use Rattle.sorting.proofs.Batches.{below-more}
 use Rattle.sorting.proofs.SortStores.{front}
-use Rattle.state.proofs.Within.{room-small}
-use Rattle.flush.proofs.Sorted.{below-more, sorted-fits, sorted-taken}
+use Rattle.flush.proofs.Sorted.{sorted-fits, sorted-taken}
 use Rattle.flush.proofs.write_sorted.Statement.{statement}
 use Rattle.flush.proofs.write_sorted.Tie as tie
 

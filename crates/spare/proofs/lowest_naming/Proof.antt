@@ -5,7 +5,8 @@ use mathlib.Core.Path.{_≡_, sym, _∙_}
 use Prim.Native.Nat.{_-_, _≤_}
 use Rattle.model.specs.Device.{namesPerPage}
 use Rattle.model.specs.Spare.{lowestNaming}
-use Rattle.spare.specs.Read.{numbersOf, namedOf}
+use Rattle.front.specs.Read.{numbersOf}
+use Rattle.spare.specs.Read.{namedOf}
 use Rattle.spare.proofs.Sizes.{sizes}
 use Rattle.spare.proofs.Naming.{names-from, lowest-start, lowest-hit, lowest-miss, lowest-end}
 use Rattle.spare.proofs.lowest_naming.Statement.{statement}

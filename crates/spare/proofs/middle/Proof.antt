@@ -3,7 +3,7 @@ use borrow.Author.Needs.{needs}
 use native.Mathlib.Omega.{arith}
 use Rattle.model.specs.Spare.{middle}
 use Rattle.model.proofs.Limits.{g-inside, names-inside}
-use Rattle.spare.specs.Read.{numbersOf}
+use Rattle.front.specs.Read.{numbersOf}
 use Rattle.spare.proofs.middle.Statement.{statement}
 use Rattle.spare.proofs.middle.Tie as tie
 

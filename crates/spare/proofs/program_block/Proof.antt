@@ -6,7 +6,7 @@ use Prim.Native.Nat.{_+_, _*_, _≤_}
 use lib.ListN.{length}
 use Rattle.model.specs.Device.{entriesPerPage}
 use Rattle.model.proofs.OnePass.{pass-stopped}
-use Rattle.spare.specs.Read.{numbersOf}
+use Rattle.front.specs.Read.{numbersOf}
 use Rattle.spare.proofs.Sizes.{sizes, block-size, block-entries-inside}
 use Rattle.spare.proofs.Around.{passed}
 use Rattle.spare.proofs.program_block.Statement.{statement}

@@ -12,7 +12,7 @@ use Rattle.model.specs.Levels.{Group}
 use Rattle.model.specs.State.{State, withGroups, groupAt}
 use Rattle.model.specs.Sound.{soundRecord, soundGroup}
 use Rattle.model.proofs.SoundGroups.{group-sound}
-use Rattle.spare.specs.Read.{numbersOf}
+use Rattle.front.specs.Read.{numbersOf}
 use Rattle.record.specs.declared.Record.{Record}
 use Rattle.state.specs.Reading.{readState}
 use Rattle.state.proofs.Handing.{GroupPart, lent, part-replaced}

@@ -17,10 +17,10 @@ use Rattle.model.specs.Levels.{takeInAll}
 use Rattle.model.specs.State.{withGroups}
 use Rattle.model.specs.Sound.{soundGroups}
 use Rattle.model.proofs.Limits.{limits}
-use Rattle.spare.specs.declared.Numbers.{Numbers}
-use Rattle.spare.specs.Read.{numbersOf}
-use Rattle.spare.proofs.Numbers as D
-use Rattle.spare.proofs.Numbers.Laws as D′
+use Rattle.front.specs.declared.Numbers.{Numbers}
+use Rattle.front.specs.Read.{numbersOf}
+use Rattle.front.proofs.Numbers as D
+use Rattle.front.proofs.Numbers.Laws as D′
 use Rattle.record.specs.declared.Record.{Record}
 use Rattle.record.proofs.Record as T
 use Rattle.record.proofs.Record.Laws as T′

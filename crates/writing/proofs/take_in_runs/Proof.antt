@@ -16,10 +16,10 @@ use denote.Index.{place-is, elem-out, elem-back, looks-slice, shuts-slice}
 use denote.Struct.Laws as LL
 use Rattle.model.specs.Device.{Device}
 use Rattle.model.specs.Sound.{soundGroups}
-use Rattle.spare.specs.declared.Numbers.{Numbers}
-use Rattle.spare.specs.Read.{numbersOf}
-use Rattle.spare.proofs.Numbers as D
-use Rattle.spare.proofs.Numbers.Laws as D′
+use Rattle.front.specs.declared.Numbers.{Numbers}
+use Rattle.front.specs.Read.{numbersOf}
+use Rattle.front.proofs.Numbers as D
+use Rattle.front.proofs.Numbers.Laws as D′
 use Rattle.record.specs.declared.Record.{Record}
 use Rattle.record.proofs.Record as T
 use Rattle.record.proofs.Record.Laws as T′

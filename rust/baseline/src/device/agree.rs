@@ -3,9 +3,10 @@
 use hedjosur_model::ops::Refusal;
 
 use super::lookup::{predict, resolve};
-use super::numbers::Numbers;
-use super::state::{is_sound, open_with, regions, require, Regions};
+use super::state::{is_sound, open_with, regions, Regions};
+use crate::blocks::require;
 use crate::group::{self, Predictions, NOT_WRITTEN};
+use crate::numbers::Numbers;
 
 /// Whether two states, each with its spare area, agree.
 pub fn agree(one: (&[u8], &[u32]), other: (&[u8], &[u32])) -> Result<bool, Refusal> {

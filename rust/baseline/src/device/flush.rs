@@ -3,13 +3,14 @@
 use hedjosur_model::device::{group_of, offset_of};
 use hedjosur_model::ops::{Flushed, Refusal};
 
-use super::numbers::Numbers;
-use super::state::{free_block, is_sound, open_with, regions, regions_mut, require, RegionsMut};
+use super::state::{is_sound, open_with, regions, regions_mut, RegionsMut};
 use super::{marks, spare};
+use crate::blocks::{opened_block, require};
 use crate::group;
 use crate::learn::{parts, Learner, Run};
+use crate::numbers::Numbers;
 use crate::offsets::Offsets;
-use crate::sort::{ascends, number, sort_batch, BATCH};
+use crate::sort::{last_arrivals, BATCH};
 
 /// Flushes a batch; the plan gets the arrival index of each page written.
 pub fn flush(
@@ -19,25 +20,15 @@ pub fn flush(
     plan: &mut [u32],
 ) -> Result<Flushed, Refusal> {
     let device = open_with(state, area)?;
-    let block_pages = device.block_pages as usize;
-    require(plan.len() == block_pages, Refusal::BadLength)?;
+    require(
+        plan.len() == device.block_pages as usize,
+        Refusal::BadLength,
+    )?;
     require(is_sound(&device, state), Refusal::NotSound)?;
-    require((1..=block_pages).contains(&batch.len()), Refusal::BadBatch)?;
-    let greatest = batch.iter().fold(0, |greatest, &page| page.max(greatest));
-    require(greatest < device.logical_pages, Refusal::OutOfRange)?;
-    let counts = regions(&device, state).counts;
-    let block = free_block(counts, 0).ok_or(Refusal::NoFreeBlock)?;
-    free_block(counts, block + 1).ok_or(Refusal::NoFreeBlock)?;
+    let block = opened_block(&device, regions(&device, state).counts, batch)?;
 
-    let mut sorted;
-    let written = if ascends(batch) {
-        number(&mut plan[..batch.len()]);
-        batch
-    } else {
-        sorted = [0; BATCH];
-        let count = sort_batch(batch, &mut sorted, plan);
-        &sorted[..count]
-    };
+    let mut sorted = None;
+    let written = last_arrivals(batch, plan, &mut sorted);
     Ok(Flushed {
         first: store(&device, state, area, block, written),
         count: written.len() as u32,

@@ -1,11 +1,12 @@
 //! Format.
 
-use hedjosur_layout::{HEAD_BYTES, SLOTS_AT};
+use hedjosur_layout::SLOTS_AT;
 use hedjosur_model::ops::Refusal;
 use hedjosur_model::spare::NOBODY;
 
-use super::numbers::Numbers;
-use super::state::{regions_mut, require, FREE};
+use super::state::regions_mut;
+use crate::blocks::{require, FREE};
+use crate::numbers::Numbers;
 
 /// Formats a device of M, B, N and g. Of a group only its head is written: the rest
 /// means nothing while no slot is used and no offset owned.
@@ -13,10 +14,7 @@ pub fn format(state: &mut [u8], area: &mut [u32], numbers: [u32; 4]) -> Result<(
     let device = Numbers::new(numbers).ok_or(Refusal::BadNumbers)?;
     require(state.len() == device.state_bytes(), Refusal::BadLength)?;
     require(area.len() == device.spare_entries(), Refusal::BadLength)?;
-    let (head, _) = state[..HEAD_BYTES].as_chunks_mut::<4>();
-    for (bytes, number) in head.iter_mut().zip(numbers) {
-        *bytes = number.to_le_bytes();
-    }
+    device.write(state);
     let regions = regions_mut(&device, state);
     regions.counts.fill(FREE);
     regions.marks.fill(0);

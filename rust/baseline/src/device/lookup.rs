@@ -3,10 +3,11 @@
 use hedjosur_model::device::{group_of, offset_of};
 use hedjosur_model::ops::{Lookup, Refusal};
 
-use super::numbers::Numbers;
-use super::state::{open_with, regions, require, Regions};
+use super::state::{open_with, regions, Regions};
 use super::{marks, spare};
+use crate::blocks::require;
 use crate::group::{self, Found, Predictions, NOT_WRITTEN};
+use crate::numbers::Numbers;
 
 /// Looks a logical page up.
 pub fn lookup(state: &[u8], area: &[u32], logical_page: u32) -> Result<Lookup, Refusal> {
@@ -31,7 +32,7 @@ pub fn lookup(state: &[u8], area: &[u32], logical_page: u32) -> Result<Lookup, R
 
 /// The numbers and the regions of a state, with its spare area, for a call about one
 /// logical page; or refusal 1, 2, 4 or 3.
-#[inline]
+#[inline(always)]
 pub(super) fn open_for<'a>(
     state: &'a [u8],
     area: &[u32],

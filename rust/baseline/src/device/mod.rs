@@ -9,7 +9,6 @@ mod flush;
 mod format;
 mod lookup;
 mod marks;
-mod numbers;
 mod spare;
 mod state;
 mod upkeep;

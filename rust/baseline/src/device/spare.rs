@@ -2,7 +2,7 @@
 
 use hedjosur_model::spare::NOBODY;
 
-use super::numbers::Numbers;
+use crate::numbers::Numbers;
 use crate::sort::BATCH;
 
 /// The greatest error bound.

@@ -4,9 +4,10 @@ use hedjosur_layout::{Part, SLOTS_AT, SLOT_BYTES};
 use hedjosur_model::levels::GROUP_RECORDS;
 use hedjosur_model::ops::Refusal;
 
-use super::numbers::Numbers;
-use super::state::{open, regions, regions_mut, require};
+use super::state::{open, regions, regions_mut};
+use crate::blocks::require;
 use crate::group;
+use crate::numbers::Numbers;
 
 /// A listing, which has the slots of a group.
 const LISTING_BYTES: usize = GROUP_RECORDS * SLOT_BYTES;

@@ -3,15 +3,16 @@
 use hedjosur_baseline::learn::learn;
 use hedjosur_baseline::record::Record;
 use hedjosur_baseline::sort::sort_batch;
-use hedjosur_baseline::{device, group};
+use hedjosur_baseline::{device, group, plain};
 use hedjosur_layout::{state_bytes, Part, SLOT_BYTES};
 use hedjosur_model::device::Device;
 use hedjosur_model::ops::{Collected, Flushed, Lookup, Refusal};
+use hedjosur_model::plain::state_bytes as plain_state_bytes;
 use hedjosur_model::script::Listed;
 use hedjosur_probe_sys::Found;
 
 use super::Subject;
-use crate::calls::Calls;
+use crate::calls::{Calls, PlainCalls};
 
 /// The baseline.
 #[derive(Clone, Copy, Debug)]
@@ -116,5 +117,36 @@ impl Calls for Baseline {
                 (level, s, l, record.word, record.intercept)
             });
         Ok(records.collect())
+    }
+}
+
+impl PlainCalls for Baseline {
+    fn length(&self, numbers: [u32; 4]) -> Option<usize> {
+        Some(plain_state_bytes(numbers)).filter(|&length| length > 0)
+    }
+
+    fn format(&self, state: &mut [u8], numbers: [u32; 4]) -> Result<(), Refusal> {
+        plain::format(state, numbers)
+    }
+
+    fn flush(&self, state: &mut [u8], batch: &[u32], plan: &mut [u32]) -> Result<Flushed, Refusal> {
+        plain::flush(state, batch, plan)
+    }
+
+    fn lookup(&self, state: &[u8], logical_page: u32) -> Result<Option<u32>, Refusal> {
+        plain::lookup(state, logical_page)
+    }
+
+    fn discard(&self, state: &mut [u8], logical_page: u32) -> Result<(), Refusal> {
+        plain::discard(state, logical_page)
+    }
+
+    fn collect(
+        &self,
+        state: &mut [u8],
+        plan: &mut [u32],
+        erased: &mut [u32],
+    ) -> Result<Collected, Refusal> {
+        plain::collect(state, plan, erased)
     }
 }

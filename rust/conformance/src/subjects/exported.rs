@@ -1,12 +1,12 @@
-//! The proved calls.
+//! The proved calls of both engines.
 
-use hedjosur::{Device, Numbers};
+use hedjosur::{Device, Numbers, Plain};
 use hedjosur_model::ops::{Collected, Flushed, Lookup, Refusal};
 use hedjosur_model::script::Listed;
 
-use crate::calls::Calls;
+use crate::calls::{Calls, PlainCalls};
 
-/// The proved calls, through the crate `hedjosur`.
+/// The proved calls of both engines, through the crate `hedjosur`.
 #[derive(Clone, Copy, Debug)]
 pub struct Exported;
 
@@ -33,11 +33,7 @@ impl Calls for Exported {
         plan: &mut [u32],
     ) -> Result<Flushed, Refusal> {
         let mut device = Device { state, spare };
-        let flushed = device.flush(batch, plan).map_err(refusal)?;
-        Ok(Flushed {
-            first: flushed.first_page,
-            count: flushed.count,
-        })
+        device.flush(batch, plan).map(flushed).map_err(refusal)
     }
 
     fn lookup(&self, state: &[u8], spare: &[u32], logical_page: u32) -> Result<Lookup, Refusal> {
@@ -72,12 +68,8 @@ impl Calls for Exported {
         erased: &mut [u32],
     ) -> Result<Collected, Refusal> {
         let mut device = Device { state, spare };
-        let collected = device.collect(plan, erased).map_err(refusal)?;
-        Ok(Collected {
-            first: collected.first_page,
-            count: collected.count,
-            erased: collected.erased,
-        })
+        let answer = device.collect(plan, erased);
+        answer.map(collected).map_err(refusal)
     }
 
     fn compact(&self, state: &mut [u8], group: u32) -> Result<usize, Refusal> {
@@ -96,6 +88,56 @@ impl Calls for Exported {
         let listing = device.list(group, out).map_err(refusal)?;
         let records = listing.map(|r| (r.level.into(), r.start, r.span, r.word, r.intercept));
         Ok(records.collect())
+    }
+}
+
+impl PlainCalls for Exported {
+    fn length(&self, numbers: [u32; 4]) -> Option<usize> {
+        named(numbers).archive_plain_len()
+    }
+
+    fn format(&self, state: &mut [u8], numbers: [u32; 4]) -> Result<(), Refusal> {
+        Plain { state }.format(named(numbers)).map_err(refusal)
+    }
+
+    fn flush(&self, state: &mut [u8], batch: &[u32], plan: &mut [u32]) -> Result<Flushed, Refusal> {
+        let answer = Plain { state }.flush(batch, plan);
+        answer.map(flushed).map_err(refusal)
+    }
+
+    fn lookup(&self, state: &[u8], logical_page: u32) -> Result<Option<u32>, Refusal> {
+        Plain { state }.lookup(logical_page).map_err(refusal)
+    }
+
+    fn discard(&self, state: &mut [u8], logical_page: u32) -> Result<(), Refusal> {
+        Plain { state }.discard(logical_page).map_err(refusal)
+    }
+
+    fn collect(
+        &self,
+        state: &mut [u8],
+        plan: &mut [u32],
+        erased: &mut [u32],
+    ) -> Result<Collected, Refusal> {
+        let answer = Plain { state }.collect(plan, erased);
+        answer.map(collected).map_err(refusal)
+    }
+}
+
+/// What a flush answers, in the model's terms.
+fn flushed(flushed: hedjosur::Flushed) -> Flushed {
+    Flushed {
+        first: flushed.first_page,
+        count: flushed.count,
+    }
+}
+
+/// What a collection answers, in the model's terms.
+fn collected(collected: hedjosur::Collected) -> Collected {
+    Collected {
+        first: collected.first_page,
+        count: collected.count,
+        erased: collected.erased,
     }
 }
 

@@ -7,7 +7,7 @@ use super::{require, store, Refusal};
 use crate::device::Device;
 use crate::sound::state_is_sound;
 use crate::spare;
-use crate::state::{Lent, State};
+use crate::state::{free_blocks, used_blocks, Lent, State};
 
 /// Collection 'answers first page (0 if count is 0), count and number erased'.
 #[derive(Clone, Copy, Debug, PartialEq, Eq)]
@@ -40,44 +40,83 @@ pub fn collection(
     )?;
     require(erased.len() == device.blocks as usize, Refusal::BadLength)?;
     require(state_is_sound(&device, state), Refusal::NotSound)?;
-    let taken = taken_blocks(&device, state, area);
-    // Each logical page to move, ascending, with the page it is on.
-    let moved: BTreeMap<u32, u32> = taken
-        .iter()
-        .flat_map(|&block| valid_pages(&device, state, area, block))
-        .collect();
-    let gains = taken.len() >= 2 || (taken.len() == 1 && moved.is_empty());
-    require(gains, Refusal::NothingToGain)?;
-    let free = state.free_blocks().first().copied();
-    require(moved.is_empty() || free.is_some(), Refusal::NoFreeBlock)?;
+    let taken = take(&device, &state.counts, |block| {
+        valid_pages(&device, state, area, block)
+    })?;
 
-    let sorted: Vec<u32> = moved.keys().copied().collect();
-    let first = match free {
-        Some(block) if !sorted.is_empty() => store(&device, state, area, block, &sorted),
-        _ => 0,
+    let first = match taken.onto {
+        Some(block) => store(&device, state, area, block, &taken.sorted()),
+        None => 0,
     };
-    for (entry, source) in plan.iter_mut().zip(moved.into_values()) {
-        *entry = source;
-    }
-    for (entry, &block) in erased.iter_mut().zip(&taken) {
+    for &block in &taken.blocks {
         spare::erase(&device, area, block);
         state.counts[block as usize] = 0;
-        *entry = block;
     }
-    Ok(Collected {
-        first,
-        count: sorted.len() as u32,
-        erased: taken.len() as u32,
+    Ok(taken.answer(first, plan, erased))
+}
+
+/// What a collection takes.
+pub(crate) struct Taken {
+    /// The blocks, in order.
+    pub blocks: Vec<u32>,
+    /// Each logical page to move, ascending, with the page it is on.
+    moved: BTreeMap<u32, u32>,
+    /// The block it opens; 'none is needed for total 0'.
+    pub onto: Option<u32>,
+}
+
+/// What a collection takes in either engine, where a block's valid pages are told as
+/// logical page and page, or its refusals 8 and 6.
+pub(crate) fn take(
+    device: &Device,
+    counts: &[u32],
+    valid_pages: impl Fn(u32) -> Vec<(u32, u32)>,
+) -> Result<Taken, Refusal> {
+    let blocks = taken_blocks(device, counts, &valid_pages);
+    let moved: BTreeMap<u32, u32> = blocks.iter().copied().flat_map(valid_pages).collect();
+    let gains = blocks.len() >= 2 || (blocks.len() == 1 && moved.is_empty());
+    require(gains, Refusal::NothingToGain)?;
+    let free = free_blocks(counts).first().copied();
+    require(moved.is_empty() || free.is_some(), Refusal::NoFreeBlock)?;
+    let onto = free.filter(|_| !moved.is_empty());
+    Ok(Taken {
+        blocks,
+        moved,
+        onto,
     })
+}
+
+impl Taken {
+    /// The logical pages to move, 'sorted by logical page'.
+    pub fn sorted(&self) -> Vec<u32> {
+        self.moved.keys().copied().collect()
+    }
+
+    /// The answer, with both lists: 'the plan gets source pages, a second list (M
+    /// entries) the erased blocks in order; unused entries stay'.
+    pub fn answer(&self, first: u32, plan: &mut [u32], erased: &mut [u32]) -> Collected {
+        for (entry, &source) in plan.iter_mut().zip(self.moved.values()) {
+            *entry = source;
+        }
+        erased[..self.blocks.len()].copy_from_slice(&self.blocks);
+        Collected {
+            first,
+            count: self.moved.len() as u32,
+            erased: self.blocks.len() as u32,
+        }
+    }
 }
 
 /// 'Used blocks are ordered by valid pages, fewest first, ties by number, and
 /// taken while the total is at most B.'
-fn taken_blocks(device: &Device, state: &State, area: &[u32]) -> Vec<u32> {
-    let mut used: Vec<(usize, u32)> = state
-        .used_blocks()
+fn taken_blocks(
+    device: &Device,
+    counts: &[u32],
+    valid_pages: impl Fn(u32) -> Vec<(u32, u32)>,
+) -> Vec<u32> {
+    let mut used: Vec<(usize, u32)> = used_blocks(counts)
         .into_iter()
-        .map(|block| (valid_pages(device, state, area, block).len(), block))
+        .map(|block| (valid_pages(block).len(), block))
         .collect();
     used.sort_unstable();
     let mut total = 0;

@@ -1,9 +1,10 @@
 //! Flush.
 
 use super::{require, store, Refusal};
+use crate::device::Device;
 use crate::learn::last_arrivals;
 use crate::sound::state_is_sound;
-use crate::state::Lent;
+use crate::state::{free_blocks, Lent};
 
 /// Flush 'answers first page and count'.
 #[derive(Clone, Copy, Debug, PartialEq, Eq)]
@@ -33,23 +34,36 @@ pub fn flush(
         Refusal::BadLength,
     )?;
     require(state_is_sound(&device, state), Refusal::NotSound)?;
+    let block = opened_block(&device, &state.counts, batch)?;
+
+    let sorted = sort(batch, plan);
+    let first = store(&device, state, area, block, &sorted);
+    for &logical_page in &sorted {
+        state.marks[logical_page as usize] = false;
+    }
+    let count = sorted.len() as u32;
+    Ok(Flushed { first, count })
+}
+
+/// The block that a flush opens in either engine, or its refusals 5, 4 and 6: 'the
+/// lowest-numbered free block; a flush always opens a block, and a block is never
+/// added to'.
+pub(crate) fn opened_block(device: &Device, counts: &[u32], batch: &[u32]) -> Result<u32, Refusal> {
     let longest = device.block_pages as usize;
     require((1..=longest).contains(&batch.len()), Refusal::BadBatch)?;
     let exists = |&logical_page: &u32| logical_page < device.logical_pages;
     require(batch.iter().all(exists), Refusal::OutOfRange)?;
-    let free = state.free_blocks();
+    let free = free_blocks(counts);
     require(free.len() >= 2, Refusal::NoFreeBlock)?;
+    Ok(free[0])
+}
 
-    // 'A flush always opens a block, and a block is never added to.'
+/// The logical pages that a flush of this batch writes, in the order of their pages;
+/// the plan gets 'for each page written, the arrival index (from 0) stored there'.
+pub(crate) fn sort(batch: &[u32], plan: &mut [u32]) -> Vec<u32> {
     let kept = last_arrivals(batch);
-    let sorted: Vec<u32> = kept.keys().copied().collect();
-    let first = store(&device, state, area, free[0], &sorted);
-    for &logical_page in &sorted {
-        state.marks[logical_page as usize] = false;
-    }
-    for (entry, arrival) in plan.iter_mut().zip(kept.into_values()) {
+    for (entry, &arrival) in plan.iter_mut().zip(kept.values()) {
         *entry = arrival;
     }
-    let count = sorted.len() as u32;
-    Ok(Flushed { first, count })
+    kept.into_keys().collect()
 }

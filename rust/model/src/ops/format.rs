@@ -1,7 +1,6 @@
 //! Format.
 
 use super::{require, Refusal};
-use crate::device::Device;
 use crate::spare::NOBODY;
 use crate::state::{Lent, State};
 
@@ -10,11 +9,7 @@ use crate::state::{Lent, State};
 /// outside its limits, then 2 when state or spare area hasn't exactly the length
 /// these numbers give.' It 'clears all marks', and the bits behind the last one.
 pub fn format(lent: &mut Lent, area: &mut [u32], numbers: [u32; 4]) -> Result<(), Refusal> {
-    let device = Device::new(numbers).ok_or(Refusal::BadNumbers)?;
-    let state = match lent {
-        Lent::Held(state) if state.fits(&device) => state,
-        _ => return Err(Refusal::BadLength),
-    };
+    let (device, state) = lent.open_for_format(numbers)?;
     require(area.len() == device.spare_length(), Refusal::BadLength)?;
 
     *state = State::formatted(&device);

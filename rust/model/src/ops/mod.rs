@@ -21,6 +21,9 @@ pub use list::list;
 pub use lookup::{lookup, Lookup};
 pub use refusal::Refusal;
 
+pub(crate) use collection::take;
+pub(crate) use flush::{opened_block, sort};
+
 use crate::device::Device;
 use crate::learn::learn;
 use crate::spare;

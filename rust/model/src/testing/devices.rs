@@ -66,6 +66,48 @@ pub fn sorted_batch(random: &mut Random, device: &Device) -> Vec<u32> {
     pages.into_iter().collect()
 }
 
+/// A batch made wrong now and then: empty, too long, or with a logical page that is N
+/// or more.
+pub fn perhaps_wrong(
+    random: &mut Random,
+    mut batch: Vec<u32>,
+    block_pages: u32,
+    logical_pages: u32,
+) -> Vec<u32> {
+    match random.below(10) {
+        0 => batch.clear(),
+        1 => batch = batch.repeat(block_pages as usize + 1),
+        2 | 3 => batch[0] = random.pick(&[logical_pages, logical_pages + 1, u32::MAX]),
+        _ => {}
+    }
+    if random.once_in(12) {
+        batch.push(u32::MAX);
+    }
+    batch
+}
+
+/// A logical page, now and then one that is N or more.
+pub fn any_logical_page(random: &mut Random, logical_pages: u64) -> u32 {
+    let beyond = logical_pages.min(1 << 31) as u32 + 1;
+    match random.once_in(12) {
+        true => u32::MAX,
+        false => random.below(beyond),
+    }
+}
+
+/// A list that is mostly as long as wanted.
+pub fn any_list(random: &mut Random, wanted: u64) -> Vec<u32> {
+    let length = match random.below(8) {
+        0 => wanted + 1,
+        1 => wanted.saturating_sub(1),
+        _ => wanted,
+    };
+    // Only states with numbers outside limits could want more.
+    (0..length.min(5000))
+        .map(|_| random.bits() as u32)
+        .collect()
+}
+
 /// A plan and an erased list of the right lengths, with contents that show what
 /// was written.
 pub fn lists(device: &Device) -> [Vec<u32>; 2] {

@@ -9,10 +9,13 @@ mod spoilers;
 mod states;
 mod world;
 
-pub use devices::{batch, full_device, lists, small_device, sorted_batch};
+pub use devices::{
+    any_list, any_logical_page, batch, full_device, lists, perhaps_wrong, small_device,
+    sorted_batch,
+};
 pub use program::{proved_listing, run_program};
 pub use random::Random;
 pub use rounds::{multiplier, rounds, CallLog};
 pub use spoilers::{Spoiler, SPOILERS};
-pub use states::{any_area, any_record, last_offset, sound_group, sound_state};
+pub use states::{any_area, any_record, last_offset, sound_group, sound_plain_state, sound_state};
 pub use world::World;

@@ -5,6 +5,7 @@ use std::collections::BTreeSet;
 use super::Random;
 use crate::device::{Device, GROUP_PAGES};
 use crate::levels::{Group, GROUP_RECORDS};
+use crate::plain;
 use crate::record::{Kind, Record};
 use crate::spare::NOBODY;
 use crate::state::State;
@@ -81,18 +82,44 @@ pub fn sound_state(random: &mut Random, device: &Device) -> State {
     let (used, kept) = (random.between(1, 4), random.between(1, 8));
     State {
         numbers: device.numbers(),
-        counts: (0..device.blocks)
-            .map(|_| match random.once_in(used) {
-                true => 0,
-                false => random.between(1, device.block_pages),
-            })
-            .collect(),
+        counts: any_counts(random, device, used),
         marks: (0..device.mark_bits())
             .map(|_| random.once_in(kept))
             .collect(),
         groups: (0..device.groups())
             .map(|number| sound_group(random, last_offset(device, number)))
             .collect(),
+    }
+}
+
+/// Counts of a device that are at most B, one in `used` of them 0.
+fn any_counts(random: &mut Random, device: &Device, used: u32) -> Vec<u32> {
+    (0..device.blocks)
+        .map(|_| match random.once_in(used) {
+            true => 0,
+            false => random.between(1, device.block_pages),
+        })
+        .collect()
+}
+
+/// A state of a device for the plain engine, with arbitrary counts and sound entries.
+pub fn sound_plain_state(random: &mut Random, device: &Device) -> plain::State {
+    let (used, kept) = (random.between(1, 4), random.between(1, 8));
+    let counts = any_counts(random, device, used);
+    let written = |&page: &u32| {
+        let (block, place) = (page / device.block_pages, page % device.block_pages);
+        place < counts[block as usize]
+    };
+    let mut pages: Vec<u32> = (0..device.pages()).filter(written).collect();
+    random.shuffle(&mut pages);
+    let entries = (0..device.logical_pages).map(|_| match random.once_in(kept) {
+        true => plain::NOT_WRITTEN,
+        false => pages.pop().unwrap_or(plain::NOT_WRITTEN),
+    });
+    plain::State {
+        numbers: device.numbers(),
+        entries: entries.collect(),
+        counts,
     }
 }
 

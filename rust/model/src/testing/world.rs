@@ -1,6 +1,6 @@
 //! A state with its spare area, and calls on both.
 
-use super::{batch, lists, Random};
+use super::{any_area, batch, lists, sound_state, Random};
 use crate::device::Device;
 use crate::ops::{self, Collected, Flushed, Lookup, Refusal};
 use crate::state::{Lent, State};
@@ -15,6 +15,17 @@ pub struct World {
 }
 
 impl World {
+    /// Slices that fit a device and hold anything, not formatted yet.
+    pub fn unformatted(random: &mut Random, device: &Device) -> World {
+        World {
+            lent: Lent::Held(State {
+                numbers: [random.below(5); 4],
+                ..sound_state(random, device)
+            }),
+            area: any_area(random, device),
+        }
+    }
+
     /// A newly formatted device.
     pub fn formatted(device: &Device) -> World {
         let mut lent = Lent::fitting(device);
@@ -47,10 +58,7 @@ impl World {
 
     /// The contents, of a state that is long enough to hold its numbers.
     pub fn state_mut(&mut self) -> &mut State {
-        match &mut self.lent {
-            Lent::Held(state) => state,
-            Lent::Short => panic!("the state is too short"),
-        }
+        self.lent.held_mut()
     }
 
     /// A flush whose plan is thrown away.

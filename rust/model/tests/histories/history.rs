@@ -2,8 +2,7 @@
 
 use hedjosur_model::book::Book;
 use hedjosur_model::device::Device;
-use hedjosur_model::state::{Lent, State};
-use hedjosur_model::testing::{any_area, sound_state, CallLog, Random, World};
+use hedjosur_model::testing::{CallLog, Random, World};
 
 use crate::events::Events;
 
@@ -33,17 +32,10 @@ impl<'a> History<'a> {
         log: &'a mut CallLog,
         events: &'a mut Events,
     ) -> History<'a> {
-        let world = World {
-            lent: Lent::Held(State {
-                numbers: [random.below(5); 4],
-                ..sound_state(random, &device)
-            }),
-            area: any_area(random, &device),
-        };
         let mut history = History {
             device,
             earlier: World::formatted(&device),
-            world,
+            world: World::unformatted(random, &device),
             book: Book::default(),
             random,
             log,

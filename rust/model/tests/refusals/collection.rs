@@ -1,11 +1,11 @@
 //! Collection.
 
 use hedjosur_model::ops;
-use hedjosur_model::testing::rounds;
+use hedjosur_model::testing::{any_list, rounds};
 
-use crate::expected::{assert_met, expect, first_of, Tally};
+use crate::expected::{assert_met, expect, first_of, Condition, Tally};
 use crate::facts::Facts;
-use crate::worlds::{any_list, any_world, marks};
+use crate::worlds::{any_world, marks};
 
 #[test]
 fn refuses_in_order() {
@@ -28,23 +28,11 @@ fn refuses_in_order() {
                 (2, erased.len() as u64 != facts.blocks),
                 (3, facts.unsound()),
             ];
-            // How many blocks are taken, and their valid pages together.
-            let (mut taken, mut total) = (0, 0);
-            if first_of(&refused) == 0 {
-                let mut valid = facts.valid_pages();
-                valid.sort_unstable();
-                for pages in valid {
-                    if (total + pages) as u64 > facts.block_pages {
-                        break;
-                    }
-                    (taken, total) = (taken + 1, total + pages);
-                }
-            }
-            let gain = [
-                (8, taken == 0 || (taken == 1 && total > 0)),
-                (6, total > 0 && facts.free() == 0),
-            ];
-            let expected = first_of(&[&refused[..], &gain].concat());
+            let (taken, total) = match first_of(&refused) {
+                0 => takings(facts.valid_pages(), facts.block_pages),
+                _ => (0, 0),
+            };
+            let expected = first_of(&[&refused[..], &gain(taken, total, facts.free())].concat());
             let mut lent = (world.clone(), plan.clone(), erased.clone());
             let answer = expect(tally, expected, &mut lent, |(world, plan, erased)| {
                 ops::collection(&mut world.lent, &mut world.area, plan, erased)
@@ -64,4 +52,25 @@ fn refuses_in_order() {
     );
     assert_met(&tally, &[1, 2, 3, 6, 8]);
     assert!(empty > 0, "no collection had a total of 0");
+}
+
+/// How many blocks are taken, and their valid pages together.
+pub fn takings(mut valid: Vec<usize>, block_pages: u64) -> (u32, usize) {
+    valid.sort_unstable();
+    let (mut taken, mut total) = (0, 0);
+    for pages in valid {
+        if (total + pages) as u64 > block_pages {
+            break;
+        }
+        (taken, total) = (taken + 1, total + pages);
+    }
+    (taken, total)
+}
+
+/// The refusals after 3.
+pub fn gain(taken: u32, total: usize, free: usize) -> [Condition; 2] {
+    [
+        (8, taken == 0 || (taken == 1 && total > 0)),
+        (6, total > 0 && free == 0),
+    ]
 }

@@ -1,10 +1,10 @@
 //! Discard.
 
-use hedjosur_model::testing::rounds;
+use hedjosur_model::testing::{any_logical_page, rounds};
 
 use crate::expected::{assert_met, expect, first_of, Tally};
 use crate::facts::Facts;
-use crate::worlds::{any_logical_page, any_world};
+use crate::worlds::any_world;
 
 #[test]
 fn refuses_in_order() {
@@ -14,7 +14,7 @@ fn refuses_in_order() {
         for _ in 0..4 {
             let mut marked = world.clone();
             let facts = Facts::of(&world);
-            let logical_page = any_logical_page(random, &facts);
+            let logical_page = any_logical_page(random, facts.logical_pages);
             log.note(("discard", &world, logical_page));
             let expected = first_of(&facts.refused_for(logical_page));
             let answer = expect(tally, expected, &mut world, |world| {

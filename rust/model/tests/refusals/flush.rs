@@ -1,11 +1,11 @@
 //! Flush.
 
 use hedjosur_model::ops;
-use hedjosur_model::testing::{batch, full_device, rounds, Random};
+use hedjosur_model::testing::{any_list, batch, full_device, perhaps_wrong, rounds, Random};
 
 use crate::expected::{assert_met, expect, first_of, Tally};
 use crate::facts::Facts;
-use crate::worlds::{any_list, any_world, marks};
+use crate::worlds::{any_world, marks};
 
 #[test]
 fn refuses_in_order() {
@@ -55,14 +55,6 @@ fn any_batch(random: &mut Random, facts: &Facts) -> Vec<u32> {
         false => vec![random.below(logical_pages)],
     };
     pages.iter_mut().for_each(|page| *page %= logical_pages);
-    match random.below(10) {
-        0 => pages.clear(),
-        1 => pages = pages.repeat(facts.block_pages.clamp(1, 300) as usize + 1),
-        2 | 3 => pages[0] = random.pick(&[logical_pages, logical_pages + 1, u32::MAX]),
-        _ => {}
-    }
-    if random.once_in(12) {
-        pages.push(u32::MAX);
-    }
-    pages
+    let block_pages = facts.block_pages.clamp(1, 300) as u32;
+    perhaps_wrong(random, pages, block_pages, logical_pages)
 }

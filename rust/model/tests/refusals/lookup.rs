@@ -1,11 +1,11 @@
 //! Lookup.
 
 use hedjosur_model::ops::Lookup;
-use hedjosur_model::testing::rounds;
+use hedjosur_model::testing::{any_logical_page, rounds};
 
 use crate::expected::{assert_met, expect, first_of, Tally};
 use crate::facts::Facts;
-use crate::worlds::{any_logical_page, any_world};
+use crate::worlds::any_world;
 
 #[test]
 fn refuses_in_order() {
@@ -15,7 +15,7 @@ fn refuses_in_order() {
         let copy = world.clone();
         let facts = Facts::of(&copy);
         for _ in 0..4 {
-            let logical_page = any_logical_page(random, &facts);
+            let logical_page = any_logical_page(random, facts.logical_pages);
             log.note(("lookup", &copy, logical_page));
             let refused = facts.refused_for(logical_page);
             let looked_up = match first_of(&refused) {

@@ -14,4 +14,5 @@ mod flush;
 mod format;
 mod groups;
 mod lookup;
+mod plain;
 mod worlds;

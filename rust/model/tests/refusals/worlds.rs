@@ -1,12 +1,10 @@
-//! States and spare areas of any kind, and lists of any length.
+//! States and spare areas of any kind.
 
 use hedjosur_model::levels::Group;
 use hedjosur_model::state::{Lent, State};
 use hedjosur_model::testing::{
     any_area, full_device, small_device, sound_state, Random, World, SPOILERS,
 };
-
-use crate::facts::Facts;
 
 /// A state and a spare area of any kind: lived in or arbitrary, then perhaps
 /// made wrong in one way or a few.
@@ -81,30 +79,8 @@ pub fn spoil(random: &mut Random, state: &mut State) {
     (spoiler.spoil)(&mut state.groups[number], last as u8);
 }
 
-/// A logical page, now and then one that is N or more.
-pub fn any_logical_page(random: &mut Random, facts: &Facts) -> u32 {
-    let beyond = facts.logical_pages.min(1 << 31) as u32 + 1;
-    match random.once_in(12) {
-        true => u32::MAX,
-        false => random.below(beyond),
-    }
-}
-
 /// The marks of a state, with the bits behind the last one.
 pub fn marks(world: &World) -> &[bool] {
     let (_, state) = world.lent.open().expect("a state");
     &state.marks
-}
-
-/// A list that is mostly as long as wanted.
-pub fn any_list(random: &mut Random, wanted: u64) -> Vec<u32> {
-    let length = match random.below(8) {
-        0 => wanted + 1,
-        1 => wanted.saturating_sub(1),
-        _ => wanted,
-    };
-    // Only states with numbers outside limits could want more.
-    (0..length.min(5000))
-        .map(|_| random.bits() as u32)
-        .collect()
 }

@@ -11,12 +11,12 @@ use Rattle.model.specs.Lists.{all}
 use Rattle.model.specs.Learning.{Write, logicals}
 use Rattle.model.proofs.Limits.{limits}
 use Rattle.model.proofs.Sorting.{logicals-length}
-use Rattle.calls.specs.Collection.{moves}
+use Rattle.calls.specs.Collection.{valid, moves}
+use Rattle.answers.specs.Answers.{collectAnswer}
 use Rattle.sorting.proofs.SortStores.{front}
+use Rattle.choice.proofs.Taken.{blocks-in, blocks-few}
 use Rattle.state.specs.Reading.{readState}
-use Rattle.state.specs.Answers.{collectAnswer}
 use Rattle.state.proofs.Shaping.{length-counts}
-use Rattle.collection.proofs.Taken.{blocks-in, blocks-few}
 use Rattle.collection.proofs.Moved.{moves-few}
 use Rattle.collection.proofs.Clearing.{written-shape, collection-left, collection-answer}
 use Rattle.collection.proofs.collect.carry_out.Statement.{statement}
@@ -46,8 +46,8 @@ named c =
 -- no more blocks are taken than there are
 few-blocks : (c : tie.Start) → length (c .args .blocks .now) ≤ c .args .d .m
 few-blocks c =
-    let shape = c .pre .0 .shape in
-    omega (arith, ap (λ (l : List ℕ). length l) (c .pre .2), blocks-few (readState (c .args .state .now)) (c .args .spare .now) _ (shape .numbers) (shape .limits) (length-counts _ _ shape))
+    let s = readState (c .args .state .now) in
+    omega (arith, ap (λ (l : List ℕ). length l) (c .pre .2), blocks-few (valid s (c .args .spare .now)) (s .device) (s .counts) _ (length-counts _ _ (c .pre .0 .shape)))
 
 -- the places where the moves are known and written, from behind the erased blocks
 abbrev at-write : tie.After-slice-known8 → tie.After-write-moves
@@ -77,7 +77,7 @@ erase-blocks-requires c κs =
     let shape = begin .pre .0 .shape in (
       written-shape _ _ _ _ _ _ shape (w .write-moves .ensures .1),
       w .write-moves .kept .1 .0 ∙ begin .pre .0 .fits,
-      ap (all (λ k. ltb k (begin .args .d .m))) (begin .pre .2) ∙ blocks-in _ _ _ (shape .numbers) (shape .limits) (length-counts _ _ shape),
+      ap (all (λ k. ltb k (begin .args .d .m))) (begin .pre .2) ∙ blocks-in _ _ _ _ (length-counts _ _ shape),
     )
 
 cast-t28 : tie.Need-cast-t28

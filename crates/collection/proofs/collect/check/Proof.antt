@@ -11,11 +11,12 @@ use Rattle.calls.specs.Refusals.{firstRefusal, openingWith}
 use Rattle.calls.specs.Collection.{admitChecks}
 use Rattle.calls.specs.History.{lend}
 use Rattle.calls.proofs.Refusing.{ClearTo, front-refuses, refuses-at, is-clear, right-length, wrong-length}
-use Rattle.spare.specs.Read.{numbersOf}
+use Rattle.front.specs.Read.{numbersOf}
+use Rattle.answers.specs.Answers.{refusalOf}
+use Rattle.answers.specs.Opening.{verdictOf}
+use Rattle.answers.proofs.Verdicts.{says-refused, says-passed, refused-first, passed-all}
 use Rattle.state.specs.Reading.{readState}
-use Rattle.state.specs.Answers.{refusalOf}
-use Rattle.state.specs.Opening.{verdictOf}
-use Rattle.state.proofs.Refusing.{says-refused, says-passed, refused-first, passed-all, opened-with}
+use Rattle.state.proofs.Refusing.{opened-with}
 use Rattle.collection.proofs.Ending.{rest, to-rest}
 use Rattle.collection.proofs.collect.check.Statement.{statement}
 use Rattle.collection.proofs.collect.check.Tie as tie

@@ -12,19 +12,18 @@ use Rattle.model.specs.Device.{Device}
 use Rattle.model.specs.State.{State}
 use Rattle.calls.specs.Refusals.{firstRefusal}
 use Rattle.calls.specs.Choice.{blocksOf}
-use Rattle.calls.specs.Collection.{victims, admitChecks}
+use Rattle.calls.specs.Collection.{valid, victims, admitChecks}
 use Rattle.calls.specs.History.{lend}
-use Rattle.spare.specs.Read.{numbersOf}
+use Rattle.front.specs.Read.{numbersOf}
+use Rattle.answers.specs.Answers.{refusalOf, collectAnswer}
+use Rattle.answers.proofs.Verdicts.{refused-first, passed-all}
 use Rattle.sorting.proofs.SortStores.{front}
+use Rattle.choice.specs.Taking.{gainChecks}
+use Rattle.choice.proofs.Taken.{blocks-length, blocks-few}
+use Rattle.choice.proofs.Deciding.{nothing-then, full-then, taken-then}
 use Rattle.state.specs.Reading.{readState}
 use Rattle.state.specs.Shaped.{Passed}
-use Rattle.state.specs.Answers.{collectAnswer}
 use Rattle.state.proofs.Shaping.{length-counts}
-use Rattle.state.proofs.Refusing.{refused-first, passed-all}
-use Rattle.collection.specs.Taking.{gainChecks}
-use Rattle.collection.proofs.Chosen.{blocks-length}
-use Rattle.collection.proofs.Taken.{blocks-few}
-use Rattle.collection.proofs.Deciding.{refused-then, taken-then}
 use Rattle.collection.proofs.Ending.{admitted, not-admitted, not-taken, collects}
 use Rattle.collection.proofs.collect.collect.Statement.{statement}
 use Rattle.collection.proofs.collect.collect.Tie as tie
@@ -50,14 +49,14 @@ passed : (c : tie.After-known-told) → Passed (held c) (s c) (area c) × (lengt
 passed c = admitted (start c .args .state .now) (area c) _ _ (held c) (clear c)
 
 -- that place, from where the blocks are taken, and the list of erased blocks then
-abbrev at-take : tie.After-take-blocks → tie.After-known-told
+abbrev at-take : tie.After-take → tie.After-known-told
 at-take c = c .before .before .before .before
 
-abbrev list : tie.After-take-blocks → List ℕ
-list c = c .take-blocks .last .1 .1 .1 .0
+abbrev list : tie.After-take → List ℕ
+list c = c .take .last .1 .1 .1 .0
 
 -- where blocks are taken, and what that says
-abbrev at-taken : tie.After-taken → tie.After-take-blocks
+abbrev at-taken : tie.After-taken → tie.After-take
 at-taken c = c .before .before .before .before
 
 abbrev count : tie.After-taken → ℕ
@@ -67,8 +66,8 @@ abbrev blocks : tie.After-taken → List ℕ
 blocks c = let k = at-take (at-taken c) in blocksOf (victims (s k) (area k))
 
 settled : (c : tie.After-taken) → let k = at-take (at-taken c) in
-    (firstRefusal (gainChecks (s k) (area k)) ≡ none) × (count c ≡ length (victims (s k) (area k))) × (list (at-taken c) ≡ store (start k .args .erased .now) 0 (blocks c))
-settled c = let made = at-taken c .take-blocks .ensures in taken-then _ _ _ (made .0) _ _ (made .1) _ (c .taken .given .1)
+    (firstRefusal (gainChecks (victims (s k) (area k)) (s k .counts)) ≡ none) × (count c ≡ length (victims (s k) (area k))) × (list (at-taken c) ≡ store (start k .args .erased .now) 0 (blocks c))
+settled c = let made = at-taken c .take .ensures in taken-then _ _ _ (made .0) _ _ (made .1) _ (c .taken .given .1)
 
 counted : (c : tie.After-taken) → count c ≡ length (blocks c)
 counted c = settled c .1 ∙ sym (blocks-length _)
@@ -76,11 +75,10 @@ counted c = settled c .1 ∙ sym (blocks-length _)
 few : (c : tie.After-taken) → length (blocks c) ≤ length (start (at-take (at-taken c)) .args .erased .now)
 few c =
     let k = at-take (at-taken c) in
-    let shape = passed k .0 .shape in
-    omega (arith, blocks-few (s k) (area k) _ (shape .numbers) (shape .limits) (length-counts _ _ shape), passed k .2)
+    omega (arith, blocks-few (valid (s k) (area k)) (s k .device) (s k .counts) _ (length-counts _ _ (passed k .0 .shape)), passed k .2)
 
 within : (c : tie.After-taken) → count c ≤ length (list (at-taken c))
-within c = omega (arith, counted c, few c, at-taken c .take-blocks .kept .1 .1 .1 .0)
+within c = omega (arith, counted c, few c, at-taken c .take .kept .1 .1 .1 .0)
 
 -- they are the front of the list
 in-front : (c : tie.After-taken) → take (count c) (list (at-taken c)) ≡ blocks c
@@ -90,16 +88,24 @@ returns : tie.Need-returns
 unfolding collectAnswer
 returns c = not-admitted _ _ _ _ _ (refused-first _ _ _ (c .before .before .before .check .ensures) _ (c .before .checked2 .given .1))
 
-take-blocks-requires : tie.Need-take-blocks-requires
-take-blocks-requires c κs = let p = passed (c .before .before .before) in (p .0, p .2)
+take-requires : tie.Need-take-requires
+take-requires c κs = let p = passed (c .before .before .before) in (p .0, p .2)
 
 returns-2 : tie.Need-returns-2
-unfolding collectAnswer
+unfolding collectAnswer refusalOf
 returns-2 c =
-    let k = c .before .before .before .before .before in
-    let made = k .take-blocks .ensures in
-    let refused = refused-then _ _ _ (made .0) _ _ (made .1) _ (c .before .taken2 .given .1) in
-    not-taken _ _ _ _ (clear (at-take k) .0) _ (refused .0) _ (refused .1)
+    let k = c .before .before .before .before in
+    let made = k .take .ensures in
+    let nothing = nothing-then _ _ _ (made .0) _ _ (made .1) (c .enum-told .given .1) in
+    not-taken _ _ _ _ (clear (at-take k) .0) _ (nothing .0) _ (nothing .1)
+
+returns-3 : tie.Need-returns-3
+unfolding collectAnswer refusalOf
+returns-3 c =
+    let k = c .before .before .before .before in
+    let made = k .take .ensures in
+    let full = full-then _ _ _ (made .0) _ _ (made .1) (c .enum-told2 .given .1) in
+    not-taken _ _ _ _ (clear (at-take k) .0) _ (full .0) _ (full .1)
 
 slice-reshare-prefix-carry-out : tie.Need-slice-reshare-prefix-carry-out
 slice-reshare-prefix-carry-out c = within (c .before .before .before .before)
@@ -113,8 +119,8 @@ carry-out-requires c κs =
     let p = passed (at-take (at-taken k)) in
     (p .0, p .1, in-front k)
 
-returns-3 : tie.Need-returns-3
-returns-3 c =
+returns-4 : tie.Need-returns-4
+returns-4 c =
     let k = c .before .before .before .before .before .before .before .before .before .before .before .before in
     let begin = start (at-take (at-taken k)) in
     let made = c .before .before .before .before .before .before .carry-out .ensures in
@@ -123,7 +129,8 @@ returns-3 c =
 
 pub collect-spec : {M : Type 1} → statement M
 collect-spec = tie.close (tie.spec (λ c κs. search needs) (λ c. search needs) (λ c. search needs) (λ c. search needs)
-    (λ c. search needs) (λ c. search needs) (λ c. search needs) returns take-blocks-requires (λ c. search needs)
+    (λ c. search needs) (λ c. search needs) (λ c. search needs) returns take-requires (λ c. search needs)
     (λ c. search needs) (λ c. search needs) (λ c. search needs) (λ c. search needs) (λ c. search needs) returns-2
+    (λ c. search needs) (λ c. search needs) (λ c. search needs) (λ c. search needs) (λ c. search needs) returns-3
     slice-reshare-prefix-carry-out slice-aggregate-carry-out carry-out-requires (λ c. search needs) (λ c. search needs)
-    (λ c. search needs) (λ c. search needs) returns-3)
+    (λ c. search needs) (λ c. search needs) returns-4)

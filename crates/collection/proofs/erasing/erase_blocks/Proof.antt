@@ -5,8 +5,8 @@ use Prim.Native.Nat.{_-_, _≤_}
 use lib.Dec.{ltb}
 use lib.ListN.{length, drop}
 use borrow.Author.Tests.{ltb-true}
+use Rattle.front.specs.Read.{numbersOf}
 use Rattle.sorting.proofs.SortSpread.{all-getD}
-use Rattle.spare.specs.Read.{numbersOf}
 use Rattle.state.specs.Reading.{readState}
 use Rattle.state.specs.Shaped.{Shaped}
 use Rattle.collection.proofs.Clearing.{Clearing, erased-shape, cleared-next, cleared-end}

@@ -10,9 +10,9 @@ use borrow.Author.Tests.{ltb-true}
 use Rattle.model.specs.Lists.{store}
 use Rattle.model.specs.Spare.{middle}
 use Rattle.calls.specs.Collection.{usedBlock}
+use Rattle.front.specs.Read.{numbersOf}
 use Rattle.sorting.proofs.SortStores.{stored-all}
 use Rattle.sorting.proofs.SortSpread.{all-getD, uncounted}
-use Rattle.spare.specs.Read.{numbersOf}
 use Rattle.state.specs.Reading.{readState}
 use Rattle.collection.proofs.Gathering.{gathered, gathered-end, gathered-next, gathered-count, named-part, named-none, named-count, stored-part}
 use Rattle.collection.proofs.moving.gather.Statement.{statement}

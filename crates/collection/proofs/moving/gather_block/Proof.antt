@@ -2,17 +2,19 @@
 use native.Mathlib.Omega.{arith}
 use mathlib.Core.Path.{_≡_, refl, sym, ap, _∙_}
 use mathlib.Core.List.{List, map}
+use mathlib.Core.Bool.{Bool}
 use Prim.Native.Nat.{ℕ, _+_, _-_, _≤_, _<_}
 use lib.ListN.{length, length-set}
 use Rattle.model.specs.Lists.{store}
 use Rattle.model.specs.Spare.{middle}
 use Rattle.model.proofs.Limits.{limits}
-use Rattle.calls.specs.Collection.{usedBlock}
+use Rattle.calls.specs.Collection.{valid, usedBlock}
+use Rattle.front.specs.Read.{numbersOf}
 use Rattle.sorting.proofs.SortStores.{stored-on, stored-all}
 use Rattle.sorting.proofs.SortSpread.{counted, uncounted}
-use Rattle.spare.specs.Read.{numbersOf}
+use Rattle.choice.proofs.ValidPages.{validFrom, valid-end, valid-next, valid-passed}
 use Rattle.state.specs.Reading.{readState}
-use Rattle.collection.proofs.Judging.{validFrom, in-device, page-fits, block-fits, valid-first, valid-end, valid-next, valid-passed}
+use Rattle.collection.proofs.Judging.{in-device, page-fits, block-fits, pages-first}
 use Rattle.collection.proofs.Gathering.{named-next, named-none, room-left}
 use Rattle.collection.proofs.moving.gather_block.Statement.{statement}
 use Rattle.collection.proofs.moving.gather_block.Tie as tie
@@ -20,13 +22,17 @@ use Rattle.collection.proofs.moving.gather_block.Tie as tie
 abbrev Inv-loop : tie.InvT-loop
 Inv-loop state spare d k pages₀ sources₀ n₀ b a n₁ i₀ pages sources n i =
     (i ≤ d .b) × (length pages ≡ length pages₀) × (length sources ≡ length sources₀)
-    × (n₀ + length (usedBlock (readState state) spare k .pages) ≡ n + length (validFrom (numbersOf d) (readState state) spare k i))
+    × (n₀ + length (usedBlock (readState state) spare k .pages) ≡ n + length (validFrom (valid (readState state) spare) (numbersOf d) k i))
     × (store pages₀ n₀ (map (middle (numbersOf d) spare) (usedBlock (readState state) spare k .pages))
-    ≡ store pages n (map (middle (numbersOf d) spare) (validFrom (numbersOf d) (readState state) spare k i)))
-    × (store sources₀ n₀ (usedBlock (readState state) spare k .pages) ≡ store sources n (validFrom (numbersOf d) (readState state) spare k i))
+    ≡ store pages n (map (middle (numbersOf d) spare) (validFrom (valid (readState state) spare) (numbersOf d) k i)))
+    × (store sources₀ n₀ (usedBlock (readState state) spare k .pages) ≡ store sources n (validFrom (valid (readState state) spare) (numbersOf d) k i))
 
 abbrev μ-loop : tie.MeasureT-loop
 μ-loop state spare d k pages₀ sources₀ n₀ b a n₁ i₀ pages sources n i = d .b - i
+
+-- the test by which they are gathered
+abbrev judged : tie.Start Inv-loop μ-loop → ℕ → Bool
+judged c = valid (readState (c .args .state .now)) (c .args .spare .now)
 
 mul-a : tie.Need-mul-a Inv-loop μ-loop
 mul-a c = omega (arith, block-fits _ _ _ (c .before .before .before .before .pre .0) _ (c .before .before .before .before .pre .1))
@@ -34,7 +40,7 @@ mul-a c = omega (arith, block-fits _ _ _ (c .before .before .before .before .pre
 loop-holds : tie.Need-loop-holds Inv-loop μ-loop
 loop-holds c =
     let start = c .before .before .before .before in
-    let first = sym (valid-first _ _ _ (start .pre .0) (start .args .k)) in (
+    let first = sym (pages-first _ _ _ (start .pre .0) (start .args .k)) in (
       omega arith,
       refl,
       refl,
@@ -59,7 +65,7 @@ middle-requires c κs =
 
 -- there is room for one more
 room : (c : tie.After-middle Inv-loop μ-loop) → c .before .before .before .before .loop .n < c .before .before .before .before .before .before .before .before .before .args .n + length (usedBlock (readState (c .before .before .before .before .before .before .before .before .before .args .state .now)) (c .before .before .before .before .before .before .before .before .before .args .spare .now) (c .before .before .before .before .before .before .before .before .before .args .k) .pages)
-room c = room-left _ _ _ _ _ (c .before .before .before .before .loop .inv .3) (valid-next _ _ _ (c .before .before .before .before .before .before .before .before .before .pre .0) _ _ (c .before .before .before .loop-test .taken) _ (c .before .before .valid .ensures) (c .before .if1 .taken))
+room c = room-left _ _ _ _ _ (c .before .before .before .before .loop .inv .3) (valid-next _ _ _ _ (c .before .before .before .loop-test .taken) _ (c .before .before .valid .ensures) (c .before .if1 .taken))
 
 mul-pages : tie.Need-mul-pages Inv-loop μ-loop
 mul-pages c = omega (arith, room c, c .before .before .before .before .before .before .before .before .before .pre .2)
@@ -85,7 +91,8 @@ add-i c = omega (arith, limits _ (c .before .before .before .before .before .bef
 loop-again : tie.Need-loop-again Inv-loop μ-loop
 loop-again c =
     let inv = c .before .before .before .before .loop .inv in
-    let next = valid-next _ _ _ (c .before .before .before .before .before .before .before .before .before .pre .0) _ _ (c .before .before .before .loop-test .taken) _ (c .before .before .valid .ensures) (c .before .if1 .taken) in (
+    let start = c .before .before .before .before .before .before .before .before .before in
+    let next = valid-next (judged start) (numbersOf (start .args .d)) (start .args .k) _ (c .before .before .before .loop-test .taken) _ (c .before .before .valid .ensures) (c .before .if1 .taken) in (
       omega arith,
       simp length-set (omega arith),
       simp length-set (omega arith),
@@ -101,7 +108,7 @@ loop-again-2 : tie.Need-loop-again-2 Inv-loop μ-loop
 loop-again-2 c =
     let start = c .before .before .before .before .before .before .before .before in
     let at-loop = c .before .before .before .loop in
-    let passed = valid-passed _ _ _ (start .pre .0) _ _ (c .before .before .loop-test .taken) _ (c .before .valid .ensures) (c .if1 .left) in (
+    let passed = valid-passed (judged start) (numbersOf (start .args .d)) (start .args .k) _ (c .before .before .loop-test .taken) _ (c .before .valid .ensures) (c .if1 .left) in (
       omega arith,
       at-loop .inv .1,
       at-loop .inv .2,
@@ -113,7 +120,8 @@ loop-again-2 c =
 returns : tie.Need-returns Inv-loop μ-loop
 returns c =
     let inv = c .before .loop .inv in
-    let none = valid-end _ _ _ (c .before .before .before .before .before .before .pre .0) _ _ (c .loop-test .left) in
+    let start = c .before .before .before .before .before .before in
+    let none = valid-end (judged start) (numbersOf (start .args .d)) (start .args .k) _ (c .loop-test .left) in
     (uncounted _ _ _ (inv .3) none, (stored-all _ _ _ _ (inv .4) (named-none _ _ _ none), stored-all _ _ _ _ (inv .5) none))
 
 pub gather-block-spec : {M : Type 1} → statement M

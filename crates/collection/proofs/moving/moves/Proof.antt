@@ -6,9 +6,8 @@ use lib.Dec.{ltb}
 use lib.ListN.{length, take}
 use borrow.Author.Needs.{needs}
 use Rattle.model.specs.Lists.{all}
-use Rattle.state.specs.Reading.{readState}
+use Rattle.choice.proofs.Taken.{blocks-in}
 use Rattle.state.proofs.Shaping.{length-counts}
-use Rattle.collection.proofs.Taken.{blocks-in}
 use Rattle.collection.proofs.Moved.{gathered-few, front-lengths, sort-ready, sort-done}
 use Rattle.collection.proofs.moving.moves.Statement.{statement}
 use Rattle.collection.proofs.moving.moves.Tie as tie
@@ -38,10 +37,9 @@ lengths c =
 
 gather-requires : tie.Need-gather-requires
 gather-requires c κs =
-    let shape = start c .pre .0 .shape in
     let most = gathered-few _ _ _ (start c .pre .0) _ (start c .pre .1) in (
       start c .pre .0,
-      ap (all (λ k. ltb k (start c .args .d .m))) (start c .pre .1) ∙ blocks-in (readState (start c .args .state .now)) (start c .args .spare .now) _ (shape .numbers) (shape .limits) (length-counts _ _ shape),
+      ap (all (λ k. ltb k (start c .args .d .m))) (start c .pre .1) ∙ blocks-in _ _ _ _ (length-counts _ _ (start c .pre .0 .shape)),
       most,
       most,
     )

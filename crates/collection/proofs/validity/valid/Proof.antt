@@ -2,7 +2,7 @@
 use native.Mathlib.Omega.{arith}
 use mathlib.Core.Path.{sym, ap, _∙_}
 use borrow.Author.Needs.{needs}
-use Rattle.state.specs.Answers.{asLooked}
+use Rattle.answers.specs.Answers.{asLooked}
 use Rattle.state.proofs.Seeking.{looked-is}
 use Rattle.collection.proofs.Judging.{group-fine, too-high, not-given, given-is}
 use Rattle.collection.proofs.validity.valid.Statement.{statement}

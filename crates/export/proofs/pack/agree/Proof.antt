@@ -1,8 +1,8 @@
 -- Each arm by the number of its answer.
 use mathlib.Core.Path.{sym, ap, _∙_}
 use borrow.Author.Needs.{needs}
-use Rattle.state.specs.declared.answers.Agreed.{Agreed}
-use Rattle.state.specs.Answers.{agreeAnswer}
+use Rattle.answers.specs.declared.Agreed.{Agreed}
+use Rattle.answers.specs.Answers.{agreeAnswer}
 use Rattle.export.specs.Packing.{packed}
 use Rattle.export.proofs.pack.agree.Statement.{statement}
 use Rattle.export.proofs.pack.agree.Tie as tie

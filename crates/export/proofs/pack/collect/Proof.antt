@@ -3,9 +3,9 @@ use mathlib.Core.Path.{sym, ap, subst, _∙_}
 use Prim.Native.Nat.{_≤_, _<_}
 use native.Mathlib.Omega.{arith}
 use borrow.Author.Needs.{needs}
-use Rattle.state.specs.declared.answers.Collected.{Collected}
-use Rattle.state.specs.Answers.{collectAnswer}
 use Rattle.calls.specs.Bounds.{pageLimit, Bounded}
+use Rattle.answers.specs.declared.Collected.{Collected}
+use Rattle.answers.specs.Answers.{collectAnswer}
 use Rattle.export.specs.Packing.{packed}
 use Rattle.export.proofs.pack.collect.Statement.{statement}
 use Rattle.export.proofs.pack.collect.Tie as tie

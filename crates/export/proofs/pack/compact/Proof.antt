@@ -1,8 +1,8 @@
 -- Each arm by the number of its answer.
 use mathlib.Core.Path.{sym, ap, _∙_}
 use borrow.Author.Needs.{needs}
-use Rattle.state.specs.declared.answers.Compacted.{Compacted}
-use Rattle.state.specs.Answers.{compactAnswer}
+use Rattle.answers.specs.declared.Compacted.{Compacted}
+use Rattle.answers.specs.Answers.{compactAnswer}
 use Rattle.export.specs.Packing.{packed}
 use Rattle.export.proofs.pack.compact.Statement.{statement}
 use Rattle.export.proofs.pack.compact.Tie as tie

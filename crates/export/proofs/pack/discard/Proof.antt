@@ -1,8 +1,8 @@
 -- Each arm by the number of its answer.
 use mathlib.Core.Path.{sym, ap, _∙_}
 use borrow.Author.Needs.{needs}
-use Rattle.state.specs.declared.answers.Discarded.{Discarded}
-use Rattle.state.specs.Answers.{discardAnswer}
+use Rattle.answers.specs.declared.Discarded.{Discarded}
+use Rattle.answers.specs.Answers.{discardAnswer}
 use Rattle.export.specs.Packing.{packed}
 use Rattle.export.proofs.pack.discard.Statement.{statement}
 use Rattle.export.proofs.pack.discard.Tie as tie

@@ -1,8 +1,8 @@
 -- Each arm by the number of its answer.
 use mathlib.Core.Path.{sym, ap, _∙_}
 use borrow.Author.Needs.{needs}
-use Rattle.state.specs.declared.answers.Flushed.{Flushed}
-use Rattle.state.specs.Answers.{flushAnswer}
+use Rattle.answers.specs.declared.Flushed.{Flushed}
+use Rattle.answers.specs.Answers.{flushAnswer}
 use Rattle.export.specs.Packing.{packed}
 use Rattle.export.proofs.pack.flush.Statement.{statement}
 use Rattle.export.proofs.pack.flush.Tie as tie

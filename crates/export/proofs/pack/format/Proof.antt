@@ -1,8 +1,8 @@
 -- Each arm by the number of its answer.
 use mathlib.Core.Path.{sym, ap, _∙_}
 use borrow.Author.Needs.{needs}
-use Rattle.state.specs.declared.answers.Formatted.{Formatted}
-use Rattle.state.specs.Answers.{formatAnswer}
+use Rattle.answers.specs.declared.Formatted.{Formatted}
+use Rattle.answers.specs.Answers.{formatAnswer}
 use Rattle.export.specs.Packing.{packed}
 use Rattle.export.proofs.pack.format.Statement.{statement}
 use Rattle.export.proofs.pack.format.Tie as tie

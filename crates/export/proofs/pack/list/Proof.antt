@@ -1,8 +1,8 @@
 -- Each arm by the number of its answer.
 use mathlib.Core.Path.{sym, ap, _∙_}
 use borrow.Author.Needs.{needs}
-use Rattle.state.specs.declared.answers.Listed.{Listed}
-use Rattle.state.specs.Answers.{listAnswer}
+use Rattle.answers.specs.declared.Listed.{Listed}
+use Rattle.answers.specs.Answers.{listAnswer}
 use Rattle.export.specs.Packing.{packed}
 use Rattle.export.proofs.pack.list.Statement.{statement}
 use Rattle.export.proofs.pack.list.Tie as tie

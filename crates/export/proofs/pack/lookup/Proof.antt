@@ -3,9 +3,9 @@ use mathlib.Core.Path.{sym, ap, subst, _∙_}
 use Prim.Native.Nat.{_≤_, _<_}
 use native.Mathlib.Omega.{arith}
 use borrow.Author.Needs.{needs}
-use Rattle.state.specs.declared.answers.Lookup.{Lookup}
-use Rattle.state.specs.Answers.{lookupAnswer}
 use Rattle.calls.specs.Bounds.{pageLimit, Bounded}
+use Rattle.answers.specs.declared.Lookup.{Lookup}
+use Rattle.answers.specs.Answers.{lookupAnswer}
 use Rattle.export.specs.Packing.{packed}
 use Rattle.export.proofs.pack.lookup.Statement.{statement}
 use Rattle.export.proofs.pack.lookup.Tie as tie

@@ -1,8 +1,8 @@
 -- A refusal has its number, any other answer 0.
 use mathlib.Core.Path.{sym, ap, _∙_}
 use Rattle.calls.specs.Outcome.{number}
-use Rattle.state.specs.Answers.{collectAnswer}
 use borrow.Author.Needs.{needs}
+use Rattle.answers.specs.Answers.{collectAnswer}
 use Rattle.listing.proofs.lent.collected.Statement.{statement}
 use Rattle.listing.proofs.lent.collected.Tie as tie
 

@@ -3,7 +3,7 @@ use native.Mathlib.Omega.{arith}
 use mathlib.Core.Path.{_≡_, refl, sym, _∙_}
 use mathlib.Core.Bool.{true}
 use borrow.Author.Tests.{not-true, not-false}
-use Rattle.spare.specs.Read.{numbersOf}
+use Rattle.front.specs.Read.{numbersOf}
 use Rattle.listing.specs.Session.{takesDevice}
 use Rattle.listing.proofs.Room.{taken-within, inside}
 use Rattle.listing.proofs.Parts.{takes-device}

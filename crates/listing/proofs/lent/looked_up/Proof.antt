@@ -1,8 +1,8 @@
 -- A refusal has its number, any other answer 0.
 use mathlib.Core.Path.{sym, ap, _∙_}
 use Rattle.calls.specs.Outcome.{number}
-use Rattle.state.specs.Answers.{lookupAnswer}
 use borrow.Author.Needs.{needs}
+use Rattle.answers.specs.Answers.{lookupAnswer}
 use Rattle.listing.proofs.lent.looked_up.Statement.{statement}
 use Rattle.listing.proofs.lent.looked_up.Tie as tie
 

@@ -7,11 +7,11 @@ use borrow.Author.Tests.{not-true, not-false}
 use Rattle.model.specs.State.{State}
 use Rattle.calls.specs.Refusals.{firstRefusal}
 use Rattle.calls.specs.Agreement.{soundChecks}
-use Rattle.spare.specs.Read.{numbersOf}
+use Rattle.front.specs.Read.{numbersOf}
+use Rattle.answers.specs.Answers.{refusalOf, agreeAnswer}
+use Rattle.answers.proofs.Verdicts.{refused-first, passed-all}
 use Rattle.state.specs.Reading.{readState}
 use Rattle.state.specs.Shaped.{Passed}
-use Rattle.state.specs.Answers.{refusalOf, agreeAnswer}
-use Rattle.state.proofs.Refusing.{refused-first, passed-all}
 use Rattle.lookup.proofs.Agreeing.{clear-passed, first-refuses, second-refuses, ran-compared, first-unnamed, second-unnamed, other-numbers}
 use Rattle.lookup.proofs.agree.agree.Statement.{statement}
 use Rattle.lookup.proofs.agree.agree.Tie as tie

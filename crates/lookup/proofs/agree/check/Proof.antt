@@ -6,11 +6,12 @@ use borrow.Author.Tests.{not-true, not-false}
 use Rattle.model.specs.State.{State}
 use Rattle.calls.specs.Refusals.{firstRefusal, openingWith}
 use Rattle.calls.proofs.Refusing.{front-refuses}
-use Rattle.spare.specs.Read.{numbersOf}
+use Rattle.front.specs.Read.{numbersOf}
+use Rattle.answers.specs.Answers.{refusalOf}
+use Rattle.answers.specs.Opening.{verdictOf}
+use Rattle.answers.proofs.Verdicts.{says-refused, says-passed, refused-first, passed-all}
 use Rattle.state.specs.Reading.{readState}
-use Rattle.state.specs.Answers.{refusalOf}
-use Rattle.state.specs.Opening.{verdictOf}
-use Rattle.state.proofs.Refusing.{says-refused, says-passed, refused-first, passed-all, opened-with}
+use Rattle.state.proofs.Refusing.{opened-with}
 use Rattle.lookup.proofs.Agreeing.{check-unsound, check-clear}
 use Rattle.lookup.proofs.agree.check.Statement.{statement}
 use Rattle.lookup.proofs.agree.check.Tie as tie

@@ -4,7 +4,7 @@ use borrow.Author.Needs.{needs}
 use borrow.Author.Tests.{not-true, not-false}
 use Rattle.calls.specs.Collection.{gives}
 use Rattle.calls.specs.Agreement.{alike}
-use Rattle.state.specs.Answers.{asLooked}
+use Rattle.answers.specs.Answers.{asLooked}
 use Rattle.lookup.proofs.Comparing.{missing, missing-unlike, missing-both, missing-gives}
 use Rattle.lookup.proofs.alike.are_alike.Statement.{statement}
 use Rattle.lookup.proofs.alike.are_alike.Tie as tie

@@ -6,8 +6,8 @@ use borrow.Author.Tests.{not-true, not-false}
 use Prim.Native.Nat.{_-_, _≤_}
 use Rattle.calls.specs.Outcome.{agreed}
 use Rattle.calls.specs.Agreement.{eachBelow, isNamed}
+use Rattle.answers.specs.Answers.{refusalOf, agreeAnswer}
 use Rattle.state.specs.Reading.{readState}
-use Rattle.state.specs.Answers.{refusalOf, agreeAnswer}
 use Rattle.state.proofs.Places.{small}
 use Rattle.state.proofs.Seeking.{looked-is}
 use Rattle.lookup.specs.Agreeing.{compared}

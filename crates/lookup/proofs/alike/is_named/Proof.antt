@@ -1,7 +1,7 @@
 -- By the variant: where no page was found, there is no record.
 use mathlib.Core.Path.{_∙_}
 use Rattle.calls.specs.Agreement.{isNamed}
-use Rattle.state.specs.Answers.{asLooked}
+use Rattle.answers.specs.Answers.{asLooked}
 use Rattle.lookup.proofs.Comparing.{missing, missing-named}
 use borrow.Author.Needs.{needs}
 use Rattle.lookup.proofs.alike.is_named.Statement.{statement}

@@ -1,6 +1,6 @@
 -- By the variant.
 use Rattle.calls.specs.Agreement.{isNowhere}
-use Rattle.state.specs.Answers.{asLooked}
+use Rattle.answers.specs.Answers.{asLooked}
 use Rattle.lookup.proofs.Comparing.{not-unwritten}
 use borrow.Author.Needs.{needs}
 use Rattle.lookup.proofs.alike.is_not_written.Statement.{statement}

@@ -11,11 +11,12 @@ use Rattle.model.specs.Device.{Device, groupCount}
 use Rattle.model.specs.State.{groupAt}
 use Rattle.model.specs.Sound.{soundGroup}
 use Rattle.calls.specs.Refusals.{firstRefusal, opening}
-use Rattle.spare.specs.Read.{numbersOf}
+use Rattle.front.specs.Read.{numbersOf}
+use Rattle.answers.specs.Answers.{refusalOf, listAnswer}
+use Rattle.answers.proofs.Verdicts.{refused-first, passed-all}
 use Rattle.state.specs.Reading.{readState}
 use Rattle.state.specs.Shaped.{Shaped}
-use Rattle.state.specs.Answers.{refusalOf, listAnswer}
-use Rattle.state.proofs.Refusing.{refused-first, passed-all, opened-shape}
+use Rattle.state.proofs.Refusing.{opened-shape}
 use Rattle.lookup.proofs.Listing.{list-closed, list-length, list-range, list-unsound, list-done}
 use Rattle.lookup.proofs.list.list.Statement.{statement}
 use Rattle.lookup.proofs.list.list.Tie as tie

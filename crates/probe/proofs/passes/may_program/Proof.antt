@@ -6,7 +6,7 @@ use lib.Dec.{leb}
 use borrow.Author.Tests.{not-true, not-false}
 use borrow.Author.Needs.{needs}
 use Rattle.model.specs.Device.{withinLimits}
-use Rattle.spare.specs.Read.{numbersOf}
+use Rattle.front.specs.Read.{numbersOf}
 use Rattle.probe.proofs.Passing.{no-device, no-area, no-block, no-pages, stop-decides}
 use Rattle.probe.proofs.passes.may_program.Statement.{statement}
 use Rattle.probe.proofs.passes.may_program.Tie as tie

@@ -2,8 +2,8 @@
 use mathlib.Core.Path.{refl}
 use Rattle.model.specs.Marks.{markByte, markValue, hasBit}
 use Rattle.model.proofs.Marks.{mark-inside}
-use Rattle.state.proofs.Marking.{bit-told}
 use borrow.Author.Needs.{needs}
+use Rattle.front.proofs.Bits.{bit-told}
 use Rattle.state.proofs.marks.is_marked.Statement.{statement}
 use Rattle.state.proofs.marks.is_marked.Tie as tie
 

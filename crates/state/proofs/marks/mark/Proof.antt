@@ -7,8 +7,9 @@ use mathlib.Core.Bool.{false}
 use Rattle.model.specs.Marks.{markByte, isMarked}
 use Rattle.model.specs.State.{withMarks}
 use Rattle.model.proofs.Marks.{mark-inside}
+use Rattle.front.proofs.Bits.{shifted, added-byte, mark-adds}
 use Rattle.state.specs.Reading.{readState}
-use Rattle.state.proofs.Marking.{shifted, added-byte, mark-adds, marked-stays}
+use Rattle.state.proofs.Marking.{marked-stays}
 use borrow.Author.Needs.{needs}
 use Rattle.state.proofs.marks.mark.Statement.{statement}
 use Rattle.state.proofs.marks.mark.Tie as tie

@@ -8,8 +8,9 @@ use borrow.Author.Tests.{not-true, not-false}
 use Rattle.model.specs.Marks.{markByte, isMarked}
 use Rattle.model.specs.State.{withMarks}
 use Rattle.model.proofs.Marks.{mark-inside}
+use Rattle.front.proofs.Bits.{bit-inside, unmark-takes}
 use Rattle.state.specs.Reading.{readState}
-use Rattle.state.proofs.Marking.{bit-inside, unmark-takes, unmarked-stays}
+use Rattle.state.proofs.Marking.{unmarked-stays}
 use borrow.Author.Needs.{needs}
 use Rattle.state.proofs.marks.unmark.Statement.{statement}
 use Rattle.state.proofs.marks.unmark.Tie as tie

@@ -8,7 +8,7 @@ use borrow.Author.Tests.{not-true}
 use Rattle.model.proofs.Lists.{elem-getD}
 use Rattle.model.proofs.Parts.{all-below}
 use Rattle.calls.specs.Flush.{clearMarks}
-use Rattle.spare.specs.Read.{numbersOf}
+use Rattle.front.specs.Read.{numbersOf}
 use Rattle.state.specs.Reading.{readState}
 use Rattle.state.specs.Shaped.{Shaped}
 use Rattle.state.proofs.Shaping.{shaped-marks}

@@ -1,6 +1,6 @@
 -- Behind the marks, whose end is the place of a byte behind the last; at most 11,616,256.
 use native.Mathlib.Omega.{arith}
-use Rattle.spare.specs.Read.{numbersOf}
+use Rattle.front.specs.Read.{numbersOf}
 use Rattle.state.proofs.Places.{group-small, group-from}
 use borrow.Author.Needs.{needs}
 use Rattle.state.proofs.numbers.group_place.Statement.{statement}

@@ -8,11 +8,12 @@ use borrow.Author.Tests.{not-true, not-false}
 use Rattle.model.specs.State.{State}
 use Rattle.model.proofs.Limits.{group-inside}
 use Rattle.calls.specs.Refusals.{firstRefusal, openingWith}
-use Rattle.spare.specs.Read.{numbersOf}
+use Rattle.front.specs.Read.{numbersOf}
+use Rattle.answers.specs.Answers.{refusalOf}
+use Rattle.answers.specs.Opening.{verdictOf}
+use Rattle.answers.proofs.Verdicts.{says-refused, says-passed, refused-first, passed-all}
 use Rattle.state.specs.Reading.{readState}
-use Rattle.state.specs.Answers.{refusalOf}
-use Rattle.state.specs.Opening.{verdictOf}
-use Rattle.state.proofs.Refusing.{says-refused, says-passed, refused-first, passed-all, opened-with}
+use Rattle.state.proofs.Refusing.{opened-with}
 use Rattle.state.proofs.PageChecks.{page-closed, no-page, page-unsound, page-clear}
 use Rattle.state.proofs.opening.open_page.Statement.{statement}
 use Rattle.state.proofs.opening.open_page.Tie as tie

@@ -5,11 +5,12 @@ use borrow.Author.Needs.{needs}
 use borrow.Author.Tests.{not-true, not-false}
 use Rattle.model.specs.Device.{withinLimits, headLength, stateLength}
 use Rattle.model.specs.State.{State}
-use Rattle.spare.specs.Read.{numbersOf}
+use Rattle.front.specs.Read.{numbersOf}
+use Rattle.answers.specs.Answers.{refusalOf}
+use Rattle.answers.specs.Opening.{verdictOf}
+use Rattle.answers.proofs.Verdicts.{says-refused, says-passed}
 use Rattle.state.specs.Reading.{readState}
-use Rattle.state.specs.Answers.{refusalOf}
-use Rattle.state.specs.Opening.{verdictOf}
-use Rattle.state.proofs.Refusing.{says-refused, says-passed, too-short, not-within, not-long, is-open}
+use Rattle.state.proofs.Refusing.{too-short, not-within, not-long, is-open}
 use Rattle.state.proofs.opening.open_state.Statement.{statement}
 use Rattle.state.proofs.opening.open_state.Tie as tie
 

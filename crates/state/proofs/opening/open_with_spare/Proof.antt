@@ -6,11 +6,12 @@ use Rattle.model.specs.Device.{spareLength}
 use Rattle.model.specs.State.{State}
 use Rattle.calls.specs.Refusals.{firstRefusal, opening}
 use Rattle.calls.proofs.Refusing.{front-refuses}
-use Rattle.spare.specs.Read.{numbersOf}
+use Rattle.front.specs.Read.{numbersOf}
+use Rattle.answers.specs.Answers.{refusalOf}
+use Rattle.answers.specs.Opening.{verdictOf}
+use Rattle.answers.proofs.Verdicts.{says-refused, says-passed, refused-first, passed-all}
 use Rattle.state.specs.Reading.{readState}
-use Rattle.state.specs.Answers.{refusalOf}
-use Rattle.state.specs.Opening.{verdictOf}
-use Rattle.state.proofs.Refusing.{says-refused, says-passed, refused-first, passed-all, opened-shape, other-spare, right-spare}
+use Rattle.state.proofs.Refusing.{opened-shape, other-spare, right-spare}
 use Rattle.state.proofs.opening.open_with_spare.Statement.{statement}
 use Rattle.state.proofs.opening.open_with_spare.Tie as tie
 

@@ -7,9 +7,9 @@ use Rattle.model.specs.Levels.{listing, holder}
 use Rattle.model.specs.State.{groupAt}
 use Rattle.model.proofs.Limits.{group-inside}
 use Rattle.record.specs.Read.{bare}
+use Rattle.answers.specs.Answers.{lookupAnswer}
 use Rattle.group.specs.Answers.{foundOf, lookedOf}
 use Rattle.state.specs.Reading.{readState}
-use Rattle.state.specs.Answers.{lookupAnswer}
 use Rattle.state.proofs.Seeking.{held-word, held-is, descend-held, descend-none}
 use borrow.Author.Needs.{needs}
 use Rattle.state.proofs.seek.descend.Statement.{statement}

@@ -3,9 +3,10 @@ use native.Mathlib.Omega.{arith}
 use mathlib.Core.Path.{sym, ap, _∙_}
 use mathlib.Core.List.{[]}
 use Rattle.model.specs.Device.{pages}
-use Rattle.spare.specs.Read.{numbersOf, namedOf}
+use Rattle.front.specs.Read.{numbersOf}
+use Rattle.spare.specs.Read.{namedOf}
 use Rattle.record.specs.Read.{pageOf}
-use Rattle.state.specs.Answers.{refusalOf, lookupAnswer}
+use Rattle.answers.specs.Answers.{refusalOf, lookupAnswer}
 use Rattle.state.proofs.Places.{pages-small}
 use Rattle.state.proofs.Seeking.{no-page, page-exists, page-named, page-unnamed}
 use borrow.Author.Needs.{needs}

@@ -1,5 +1,5 @@
 -- A marked page is nowhere, after no level; another is where the records say.
-use Rattle.state.specs.Answers.{lookupAnswer}
+use Rattle.answers.specs.Answers.{lookupAnswer}
 use Rattle.state.proofs.Seeking.{marked-answer, unmarked-answer}
 use borrow.Author.Needs.{needs}
 use Rattle.state.proofs.seek.seek.Statement.{statement}

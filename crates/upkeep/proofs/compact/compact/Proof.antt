@@ -12,11 +12,12 @@ use Rattle.model.specs.Device.{Device, groupCount}
 use Rattle.model.specs.State.{groupAt}
 use Rattle.model.specs.Sound.{soundGroup}
 use Rattle.calls.specs.Refusals.{firstRefusal, opening}
-use Rattle.spare.specs.Read.{numbersOf}
+use Rattle.front.specs.Read.{numbersOf}
+use Rattle.answers.specs.Answers.{refusalOf, compactAnswer}
+use Rattle.answers.proofs.Verdicts.{refused-first, passed-all}
 use Rattle.state.specs.Reading.{readState}
 use Rattle.state.specs.Shaped.{Shaped}
-use Rattle.state.specs.Answers.{refusalOf, compactAnswer}
-use Rattle.state.proofs.Refusing.{refused-first, passed-all, opened-shape}
+use Rattle.state.proofs.Refusing.{opened-shape}
 use Rattle.upkeep.proofs.Compacting.{stays-outside, compact-closed, compact-range, compact-unsound, compact-done}
 use Rattle.upkeep.proofs.compact.compact.Statement.{statement}
 use Rattle.upkeep.proofs.compact.compact.Tie as tie

@@ -1,6 +1,6 @@
 -- The head, then the counts, the marks and the groups: the law of what is read then.
 use native.Mathlib.Omega.{arith}
-use Rattle.spare.specs.Read.{numbersOf}
+use Rattle.front.specs.Read.{numbersOf}
 use Rattle.state.specs.Reading.{readState}
 use Rattle.state.specs.Shaped.{Shaped}
 use Rattle.state.proofs.Places.{head-inside}

@@ -3,12 +3,13 @@ use native.Mathlib.Omega.{arith}
 use mathlib.Core.Path.{_≡_, refl}
 use Prim.Native.Nat.{_-_, _≤_}
 use lib.ListN.{length}
-use Rattle.spare.specs.Read.{numbersOf}
+use Rattle.front.specs.Read.{numbersOf}
+use Rattle.front.proofs.Filling.{Filled, fill-none, fill-next, fill-all}
 use Rattle.state.specs.Reading.{readState}
 use Rattle.state.specs.Shaped.{Shaped}
 use Rattle.state.proofs.Places.{small}
 use Rattle.state.proofs.Shaping.{length-marks, shaped-marks}
-use Rattle.upkeep.proofs.Filling.{marks, Filled, fill-none, fill-next, fill-all}
+use Rattle.upkeep.proofs.Filling.{marks}
 use Rattle.upkeep.proofs.format.clear_marks.Statement.{statement}
 use Rattle.upkeep.proofs.format.clear_marks.Tie as tie
 

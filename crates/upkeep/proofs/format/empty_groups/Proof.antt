@@ -4,12 +4,13 @@ use mathlib.Core.Path.{_≡_, refl}
 use Prim.Native.Nat.{_-_, _≤_}
 use lib.ListN.{length}
 use mathlib.Core.List.{[]}
-use Rattle.spare.specs.Read.{numbersOf}
+use Rattle.front.specs.Read.{numbersOf}
+use Rattle.front.proofs.Filling.{Filled, fill-none, fill-next, fill-all}
 use Rattle.state.specs.Reading.{readState}
 use Rattle.state.specs.Shaped.{Shaped}
 use Rattle.state.proofs.Places.{small}
 use Rattle.state.proofs.Shaping.{length-groups, shaped-groups}
-use Rattle.upkeep.proofs.Filling.{groups, Filled, fill-none, fill-next, fill-all}
+use Rattle.upkeep.proofs.Filling.{groups}
 use Rattle.upkeep.proofs.format.empty_groups.Statement.{statement}
 use Rattle.upkeep.proofs.format.empty_groups.Tie as tie
 

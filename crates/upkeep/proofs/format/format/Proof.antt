@@ -7,7 +7,7 @@ use Prim.Native.Nat.{ℕ}
 use lib.ListN.{length, replicate}
 use Rattle.model.specs.Device.{Device, withinLimits, stateLength, spareLength}
 use Rattle.model.specs.Spare.{nobody}
-use Rattle.state.specs.Answers.{refusalOf, formatAnswer}
+use Rattle.answers.specs.Answers.{refusalOf, formatAnswer}
 use Rattle.upkeep.proofs.Formatting.{format-numbers, format-state, format-spare, format-done}
 use Rattle.upkeep.proofs.format.format.Statement.{statement}
 use Rattle.upkeep.proofs.format.format.Tie as tie

@@ -4,7 +4,7 @@ use mathlib.Core.Path.{_∙_}
 use borrow.Author.Needs.{needs}
 use Rattle.model.proofs.Limits.{Limits, limits}
 use Rattle.model.proofs.OnePass.{pass-all}
-use Rattle.spare.specs.Read.{numbersOf}
+use Rattle.front.specs.Read.{numbersOf}
 use Rattle.writing.proofs.Written.{room, counted-shaped, counted-sound, records-taken}
 use Rattle.writing.proofs.block.write_block.Statement.{statement}
 use Rattle.writing.proofs.block.write_block.Tie as tie

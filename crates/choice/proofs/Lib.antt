@@ -1,0 +1,10 @@
+pub mod Entries
+pub mod Sizes
+pub mod Taken
+pub mod ValidPages
+pub mod Tallies
+pub mod Totals
+pub mod Victims
+pub mod Choosing
+pub mod Gains
+pub mod Deciding

@@ -1,0 +1,4 @@
+pub mod Read
+pub mod Tables
+pub mod Reading
+pub mod Formatting

@@ -1,0 +1,14 @@
+pub mod Entries
+pub mod Invariant
+pub mod Soundness
+pub mod Showing
+pub mod Choosing
+pub mod Passing
+pub mod Keeping
+pub mod Ending
+pub mod Refining
+pub mod Demand3
+pub mod Agreeing
+pub mod Next
+pub mod EnginesAgree
+pub mod Bounds

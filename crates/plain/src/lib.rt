@@ -1,0 +1,1 @@
+// The plain engine as definitions: no code.

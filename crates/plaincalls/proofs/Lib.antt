@@ -1,0 +1,16 @@
+pub mod Filling
+pub mod Blank
+pub mod Formatting
+pub mod Looking
+pub mod Discarding
+pub mod Entering
+pub mod Sorted
+pub mod Checking
+pub mod Flushing
+pub mod InOrder
+pub mod Reciprocal
+pub mod Kept
+pub mod Gathering
+pub mod Taking
+pub mod Erasing
+pub mod Collecting

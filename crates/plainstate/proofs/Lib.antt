@@ -1,0 +1,14 @@
+pub mod Sizes
+pub mod Shaping
+pub mod Writers
+pub mod SoundEntry
+pub mod Refusing
+pub mod Marking
+pub mod Ones
+pub mod Joining
+pub mod NamedPages
+pub mod Tallying
+pub mod Counted
+pub mod SoundTable
+pub mod Running
+pub mod Bounds
