@@ -7,7 +7,7 @@ use Prim.Native.Nat.{ℕ, zero, suc, _+_, _-_, _*_, _/_, _%_, _^_, _≤_, _<_}
 use native.Mathlib.Omega.{arith}
 use native.Mathlib.Nat.{pow-suc}
 use lib.Dec.{ltb, eqb}
-use lib.ListN.{length, getD, set}
+use lib.ListN.{length, getD, set, length-set}
 use lib.Seq.{getD-set-same, getD-set-other}
 use lib.Bits.{bitAnd, bitOr, or-add-and, and-high}
 use borrow.Author.Tests.{ltb-true, ltb-false, eqb-true, eqb-false, lt-ltb, le-ltb, le-leb, lt-leb}
@@ -76,7 +76,7 @@ full (suc (suc (suc (suc (suc (suc zero)))))) h = refl
 full (suc (suc (suc (suc (suc (suc (suc zero))))))) h = refl
 full (suc (suc (suc (suc (suc (suc (suc (suc i)))))))) h = absurd (omega arith)
 
-pub byte-marked : (k : ℕ) (s : List ℕ) → k < length s → Marked (8 * k) (8 * (k + 1)) s (set s k 255)
+byte-marked : (k : ℕ) (s : List ℕ) → k < length s → Marked (8 * k) (8 * (k + 1)) s (set s k 255)
 unfolding isMarked markByte markValue
 byte-marked k s h p = go (eqb (p / 8) k) refl
   where
@@ -96,8 +96,17 @@ byte-marked k s h p = go (eqb (p / 8) k) refl
         outside n true y = below (8 * k) (8 * (k + 1)) p (ltb-true p (8 * k) y)
         outside n false y = let l : 8 * k ≤ p = ltb-false p (8 * k) y in behind (8 * k) (8 * (k + 1)) p l (omega (arith, n))
 
+-- two bytes, one behind the other
+pub two-marked : (k : ℕ) (s : List ℕ) → k + 1 < length s → Marked (8 * k) (8 * (k + 2)) s (set (set s k 255) (k + 1) 255)
+two-marked k s h p =
+    let z : 8 * ((k + 1) + 1) ≡ 8 * (k + 2) = omega arith in
+    byte-marked (k + 1) (set s k 255) (simp length-set (omega arith)) p
+    ∙ ap (λ (t : Bool). inside (8 * (k + 1)) (8 * ((k + 1) + 1)) p || t) (byte-marked k s (omega arith) p)
+    ∙ joined (8 * k) (8 * (k + 1)) (8 * ((k + 1) + 1)) (omega arith) (omega arith) p (isMarked s p)
+    ∙ ap (λ (e : ℕ). inside (8 * k) e p || isMarked s p) z
+
 -- The values of a byte's bits, and a bit set by `|`.
-pub value-at : (p : ℕ) → getD bitValues (p % 8) 0 ≡ 2 ^ (p % 8)
+value-at : (p : ℕ) → getD bitValues (p % 8) 0 ≡ 2 ^ (p % 8)
 unfolding bitValues
 value-at p = go (p % 8) (omega arith)
   where

@@ -1,4 +1,4 @@
--- The pages that the first entries name, one entry after the other, and eight at once. Assumes nothing.
+-- The pages that the first entries name, one entry after the other, and sixteen at once. Assumes nothing.
 use mathlib.Core.Path.{_≡_, refl, sym, ap, subst, _∙_}
 use mathlib.Core.List.{List, [], _∷_, _++_}
 use mathlib.Core.Logic.{_≢_}
@@ -121,7 +121,7 @@ module _ (es : List ℕ) where
           mark-marked q bits (omega arith) p ∙ ap (λ (y : ℕ). eqb p y || isMarked bits p) z
           ∙ ap (λ (t : Bool). eqb p e || t) (m p l) ∙ sym (elem-next x e h g p)
 
-      pub other-named : n ≤ q → n ≤ e → NamedTo n (x + 1) es (mark q bits)
+      other-named : n ≤ q → n ≤ e → NamedTo n (x + 1) es (mark q bits)
       unfolding markByte
       other-named a b p l =
           mark-marked q bits (omega arith) p ∙ ap (λ (t : Bool). t || isMarked bits p) (ne-eqb p q (λ z. omega arith)) ∙ m p l
@@ -135,7 +135,7 @@ module _ (es : List ℕ) where
           go true i = page-named (way .0 (ltb-true e n i))
           go false i = let f : n ≤ e = ltb-false e n i in other-named (omega (arith, way .1 f)) f
 
-    -- EIGHT AT ONCE. Entries in a row from page e on: these pages are named ..
+    -- SIXTEEN AT ONCE. Entries in a row from page e on: these pages are named ..
     module _ (x e : ℕ) where
       row-elem : (k : ℕ) → x + k ≤ length es → ((j : ℕ) → j < k → getD es (x + j) noPage ≡ e + j * 1) → (p : ℕ)
           → elem p (take (x + k) es) ≡ (inside e (e + k) p || elem p (take x es))
@@ -153,24 +153,15 @@ module _ (es : List ℕ) where
           ∙ joined e (e + k) ((e + k) + 1) (omega arith) (omega arith) p (elem p (take x es))
           ∙ ap (λ (y : ℕ). inside e y p || elem p (take x es)) c
 
-      pub row-named : (k : ℕ) → x + k ≤ length es → ((j : ℕ) → j < k → getD es (x + j) noPage ≡ e + j * 1) → e + k ≤ noPage
-          → namedTo (x + k) es ≡ k + namedTo x es
-      row-named zero h row small = let z : x + 0 ≡ x = omega arith in omega (arith, ap (λ (i : ℕ). namedTo i es) z)
-      row-named (suc k) h row small =
-          let a : x + suc k ≡ (x + k) + 1 = omega arith in
-          let b : e + k ≡ e + k * 1 = omega arith in
-          let next = ap (λ (i : ℕ). namedTo i es) a ∙ named-next (x + k) (e + k) (omega arith) (b ∙ sym (row k (omega arith))) in
-          omega (arith, next, names-one (e + k) (λ z. omega arith), row-named k (omega arith) (λ j l. row j (omega arith)) (omega arith))
-
-      pub row-marked : (bits after : List ℕ) (i : ℕ) → 8 * i ≡ e → x + 8 ≤ length es → ((j : ℕ) → j < 8 → getD es (x + j) noPage ≡ e + j * 1)
-          → NamedTo n x es bits → Marked (8 * i) (8 * (i + 1)) bits after → NamedTo n (x + 8) es after
+      pub row-marked : (bits after : List ℕ) (i : ℕ) → 8 * i ≡ e → x + 16 ≤ length es → ((j : ℕ) → j < 16 → getD es (x + j) noPage ≡ e + j * 1)
+          → NamedTo n x es bits → Marked (8 * i) (8 * (i + 2)) bits after → NamedTo n (x + 16) es after
       row-marked bits after i q h row m marked p l =
-          let r : 8 * (i + 1) ≡ e + 8 = omega arith in
+          let r : 8 * (i + 2) ≡ e + 16 = omega arith in
           marked p
-          ∙ ap (λ (a : ℕ). inside a (8 * (i + 1)) p || isMarked bits p) q
+          ∙ ap (λ (a : ℕ). inside a (8 * (i + 2)) p || isMarked bits p) q
           ∙ ap (λ (a : ℕ). inside e a p || isMarked bits p) r
-          ∙ ap (λ (t : Bool). inside e (e + 8) p || t) (m p l)
-          ∙ sym (row-elem 8 h row p)
+          ∙ ap (λ (t : Bool). inside e (e + 16) p || t) (m p l)
+          ∙ sym (row-elem 16 h row p)
 
     -- .. entries that all name one ..
     pub all-named : (x : ℕ) → n ≤ noPage → (k : ℕ) → x + k ≤ length es → ((j : ℕ) → j < k → getD es (x + j) noPage < n) → namedTo (x + k) es ≡ k + namedTo x es

@@ -34,7 +34,7 @@ select-first t n x = go (t x) refl
     go false e = rw (e, select) (omega arith)
 
 -- .. and so those of one part and those of the part behind it, where w is m + n, and k is x + m.
-pub select-parts : (t : ℕ → Bool) (m n x w k : ℕ) → w ≡ m + n → k ≡ x + m → length (select t w x) ≡ length (select t m x) + length (select t n k)
+select-parts : (t : ℕ → Bool) (m n x w k : ℕ) → w ≡ m + n → k ≡ x + m → length (select t w x) ≡ length (select t m x) + length (select t n k)
 unfolding select
 select-parts t zero n x w k e q =
     let a : w ≡ n = omega arith in

@@ -17,12 +17,13 @@ pub fn name_page(bits: &mut [u8], values: &[u32], p: u32)
     bytes::put_u8(bits, i, byte | value);
 }
 
-// The pages of byte i are marked.
-pub fn fill_byte(bits: &mut [u8], i: usize)
-    requires { ⌜ i < length (now bits) ⌝ }
-    ensures { λ _. ⌜ Marked (8 * i) (8 * (i + 1)) (now (bits .entry)) (now (bits .exit)) ⌝ }
+// The pages of the bytes i and i + 1 are marked.
+pub fn fill_two(bits: &mut [u8], i: usize)
+    requires { ⌜ i + 1 < length (now bits) ⌝ }
+    ensures { λ _. ⌜ Marked (8 * i) (8 * (i + 2)) (now (bits .entry)) (now (bits .exit)) ⌝ }
 {
     bits[i] = 255;
+    bits[i + 1] = 255;
 }
 
 // How many of the pages from a up to e are marked, one by one.

@@ -90,7 +90,7 @@ fn tally_marked(state: &[u8], d: Numbers, bits: &[u8], tally: &mut [u16]) -> u32
 
 // Whether the table is sound, by these bits, of which none is set. Then the tally is the table's, where it has room.
 fn sound_by(state: &[u8], d: Numbers, bits: &mut [u8], tally: &mut [u16]) -> bool
-    requires { ⌜ Shaped (numbersOf d) (readTable (now state)) × (pages (numbersOf d) + 64 ≤ 8 * length (now bits)) × (length (now bits) ≤ 131080) × Blank (now bits) ⌝ }
+    requires { ⌜ Shaped (numbersOf d) (readTable (now state)) × (pages (numbersOf d) + 128 ≤ 8 * length (now bits)) × (length (now bits) ≤ 131088) × Blank (now bits) ⌝ }
     ensures sound { λ r. ⌜ r ≡ soundTable (readTable (now (state .entry))) ⌝ }
     ensures tally { λ r. ⌜ (r ≡ true → now (tally .exit) ≡ store (now (tally .entry)) 0 (tallyOf (readTable (now (state .entry))))) ⌝ }
 {
@@ -107,7 +107,7 @@ fn sound_least(state: &[u8], d: Numbers, tally: &mut [u16]) -> bool
     ensures sound { λ r. ⌜ r ≡ soundTable (readTable (now (state .entry))) ⌝ }
     ensures tally { λ r. ⌜ (r ≡ true → now (tally .exit) ≡ store (now (tally .entry)) 0 (tallyOf (readTable (now (state .entry))))) ⌝ }
 {
-    let mut bits = [0u8; 520];
+    let mut bits = [0u8; 528];
     sound_by(state, d, &mut bits, tally)
 }
 
@@ -117,7 +117,7 @@ fn sound_few(state: &[u8], d: Numbers, tally: &mut [u16]) -> bool
     ensures sound { λ r. ⌜ r ≡ soundTable (readTable (now (state .entry))) ⌝ }
     ensures tally { λ r. ⌜ (r ≡ true → now (tally .exit) ≡ store (now (tally .entry)) 0 (tallyOf (readTable (now (state .entry))))) ⌝ }
 {
-    let mut bits = [0u8; 4104];
+    let mut bits = [0u8; 4112];
     sound_by(state, d, &mut bits, tally)
 }
 
@@ -127,7 +127,7 @@ fn sound_more(state: &[u8], d: Numbers, tally: &mut [u16]) -> bool
     ensures sound { λ r. ⌜ r ≡ soundTable (readTable (now (state .entry))) ⌝ }
     ensures tally { λ r. ⌜ (r ≡ true → now (tally .exit) ≡ store (now (tally .entry)) 0 (tallyOf (readTable (now (state .entry))))) ⌝ }
 {
-    let mut bits = [0u8; 32776];
+    let mut bits = [0u8; 32784];
     sound_by(state, d, &mut bits, tally)
 }
 
@@ -137,7 +137,7 @@ fn sound_most(state: &[u8], d: Numbers, tally: &mut [u16]) -> bool
     ensures sound { λ r. ⌜ r ≡ soundTable (readTable (now (state .entry))) ⌝ }
     ensures tally { λ r. ⌜ (r ≡ true → now (tally .exit) ≡ store (now (tally .entry)) 0 (tallyOf (readTable (now (state .entry))))) ⌝ }
 {
-    let mut bits = [0u8; 131080];
+    let mut bits = [0u8; 131088];
     sound_by(state, d, &mut bits, tally)
 }
 

@@ -14,10 +14,10 @@ use Rattle.plainstate.proofs.naming.all_below.Statement.{statement}
 use Rattle.plainstate.proofs.naming.all_below.Tie as tie
 
 abbrev Inv-loop : tie.InvT-loop
-Inv-loop state d x n any₀ j₀ any j = (j ≤ 8) × ((i : ℕ) → i < j → entryAt (readTable state) (x + i) ≤ any)
+Inv-loop state d x n any₀ j₀ any j = (j ≤ 16) × ((i : ℕ) → i < j → entryAt (readTable state) (x + i) ≤ any)
 
 abbrev μ-loop : tie.MeasureT-loop
-μ-loop state d x n any₀ j₀ any j = 8 - j
+μ-loop state d x n any₀ j₀ any j = 16 - j
 
 loop-holds : tie.Need-loop-holds Inv-loop μ-loop
 loop-holds c = (omega arith, λ i l. absurd (omega arith))

@@ -15,10 +15,10 @@ use Rattle.plainstate.proofs.naming.in_steps.Statement.{statement}
 use Rattle.plainstate.proofs.naming.in_steps.Tie as tie
 
 abbrev Inv-loop : tie.InvT-loop
-Inv-loop state d x e s off₀ j₀ off j = (j ≤ 8) × (off ≡ 0 → (i : ℕ) → i < j → entryAt (readTable state) (x + i) ≡ e + i * s)
+Inv-loop state d x e s off₀ j₀ off j = (j ≤ 16) × (off ≡ 0 → (i : ℕ) → i < j → entryAt (readTable state) (x + i) ≡ e + i * s)
 
 abbrev μ-loop : tie.MeasureT-loop
-μ-loop state d x e s off₀ j₀ off j = 8 - j
+μ-loop state d x e s off₀ j₀ off j = 16 - j
 
 loop-holds : tie.Need-loop-holds Inv-loop μ-loop
 loop-holds c = (omega arith, λ _ i l. absurd (omega arith))
@@ -30,7 +30,7 @@ logical c = small _ (c .pre .0 .limits) .logical
 step : (c : tie.After-entry Inv-loop μ-loop) → c .before .before .before .before .args .e + c .before .before .loop .j * c .before .before .before .before .args .s ≤ 4294967295
 step c =
     let s : ℕ = c .before .before .before .before .args .s in
-    let most : c .before .before .loop .j * s ≤ 8 * s = mul-le-mul-right s (omega (arith, c .before .loop-test .taken)) in
+    let most : c .before .before .loop .j * s ≤ 16 * s = mul-le-mul-right s (omega (arith, c .before .loop-test .taken)) in
     omega (arith, most, c .before .before .before .before .pre .2)
 
 -- one more entry in step

@@ -47,9 +47,9 @@ loop-holds : tie.Need-loop-holds Inv-loop μ-loop
 unfolding namedPages
 loop-holds c = let pre = c .before .before .pre in (omega arith, refl, refl, named-none (readTable (c .before .before .args .state .now) .entries) _ _ (pre .3))
 
-name-eight-requires : tie.Need-name-eight-requires Inv-loop μ-loop
+name-sixteen-requires : tie.Need-name-sixteen-requires Inv-loop μ-loop
 unfolding bitValues
-name-eight-requires c κs =
+name-sixteen-requires c κs =
     let k = c .before .before .before in
     let pre = start k .pre in
     let inv = k .loop .inv in
@@ -59,7 +59,7 @@ add-c : tie.Need-add-c Inv-loop μ-loop
 add-c c =
     let k = c .before .before .before .before .before .before in
     let x : ℕ = k .loop .x in
-    omega (arith, c .before .before .name-eight .ensures .0, k .loop .inv .2, named-few (x + 8) (es k), k .loop .inv .0, logical k)
+    omega (arith, c .before .before .name-sixteen .ensures .0, k .loop .inv .2, named-few (x + 16) (es k), k .loop .inv .0, logical k)
 
 add-x : tie.Need-add-x Inv-loop μ-loop
 add-x c = let k = c .before .before .before .before .before .before in omega (arith, c .before .before .before .before .before .loop-test .taken, k .loop .inv .0, logical k)
@@ -67,7 +67,7 @@ add-x c = let k = c .before .before .before .before .before .before in omega (ar
 loop-again : tie.Need-loop-again Inv-loop μ-loop
 loop-again c =
     let k = c .before .before .before .before .before .before in
-    let made = c .before .before .name-eight in (
+    let made = c .before .before .name-sixteen in (
       omega (arith, c .before .before .before .before .before .loop-test .taken, k .loop .inv .0),
       omega (arith, made .kept .1 .1 .0, k .loop .inv .1),
       omega (arith, made .ensures .0, k .loop .inv .2),
@@ -102,5 +102,5 @@ returns c =
     )
 
 pub name-all-spec : {M : Type 1} → statement M
-name-all-spec = tie.close (tie.spec Inv-loop μ-loop cast-beyond mul-beyond sub-beyond loop-holds (λ c. omega (arith, c .loop .inv .0)) (λ c. search needs) name-eight-requires add-c add-x
+name-all-spec = tie.close (tie.spec Inv-loop μ-loop cast-beyond mul-beyond sub-beyond loop-holds (λ c. omega (arith, c .loop .inv .0)) (λ c. search needs) name-sixteen-requires add-c add-x
     (λ c. omega arith) loop-again (λ c. search needs) name-some-requires add-result same-length returns)

@@ -15,10 +15,10 @@ use Rattle.plainstate.proofs.naming.name_each.Statement.{statement}
 use Rattle.plainstate.proofs.naming.name_each.Tie as tie
 
 abbrev Inv-loop : tie.InvT-loop
-Inv-loop state d bits₀ values x j₀ bits j = (j ≤ 8) × (length bits ≡ length bits₀) × NamedTo (pages (numbersOf d)) (x + j) (readTable state .entries) bits
+Inv-loop state d bits₀ values x j₀ bits j = (j ≤ 16) × (length bits ≡ length bits₀) × NamedTo (pages (numbersOf d)) (x + j) (readTable state .entries) bits
 
 abbrev μ-loop : tie.MeasureT-loop
-μ-loop state d bits₀ values x j₀ bits j = 8 - j
+μ-loop state d bits₀ values x j₀ bits j = 16 - j
 
 abbrev start : tie.At-loop Inv-loop μ-loop → tie.Start Inv-loop μ-loop
 start c = c .before .before .before .before
@@ -71,7 +71,7 @@ loop-again c =
 returns : tie.Need-returns Inv-loop μ-loop
 returns c =
     let k = c .before in
-    let z : start k .args .x + k .loop .j ≡ start k .args .x + 8 = omega (arith, c .loop-test .left, k .loop .inv .0) in
+    let z : start k .args .x + k .loop .j ≡ start k .args .x + 16 = omega (arith, c .loop-test .left, k .loop .inv .0) in
     subst (λ (i : ℕ). NamedTo (pages (numbersOf (start k .args .d))) i (es k) (k .loop .bits)) z (k .loop .inv .2)
 
 pub name-each-spec : {M : Type 1} → statement M

@@ -6,7 +6,7 @@ use Rattle.plainstate.proofs.sound.sound_more.Statement.{statement}
 use Rattle.plainstate.proofs.sound.sound_more.Tie as tie
 
 sound-by-requires : tie.Need-sound-by-requires
-sound-by-requires c κs = let pre = c .before .before .before .before .pre in (pre .0, omega (arith, pre .1), omega arith, none-marked 32776)
+sound-by-requires c κs = let pre = c .before .before .before .before .pre in (pre .0, omega (arith, pre .1), omega arith, none-marked 32784)
 
 pub sound-more-spec : {M : Type 1} → statement M
 sound-more-spec = tie.close (tie.spec (λ c. search needs) sound-by-requires (λ c. search needs) (λ c. search needs))
