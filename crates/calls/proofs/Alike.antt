@@ -1,9 +1,8 @@
 -- An agreement that is not refused says yes exactly of two states that are alike: where none of its checks applies, each state is opened
 -- and sound, so every lookup's answer is that of its search, and the test of two searches is that of the answers. Assumes nothing.
-use mathlib.Core.Path.{_≡_, refl, sym, ap, subst}
+use mathlib.Core.Path.{_≡_, refl, sym, ap, _∙_}
 use mathlib.Core.List.{List, []}
-use mathlib.Core.Bool.{Bool, true, false, not, false≢true}
-use mathlib.Core.Option.{none}
+use mathlib.Core.Bool.{Bool, true, false, not, _&&_, false≢true}
 use Prim.Native.Nat.{ℕ, zero, suc, _<_}
 use native.Mathlib.Omega.{arith}
 use lib.Dec.{eqb}
@@ -13,35 +12,44 @@ use Rattle.model.specs.State.{State, groupAt}
 use Rattle.model.specs.Sound.{soundState}
 use Rattle.model.proofs.Bools.{and-l, and-r, and-i}
 use Rattle.model.proofs.SoundGroups.{group-sound}
-use Rattle.calls.specs.Refusals.{firstRefusal}
-use Rattle.calls.specs.Outcome.{Answer, agreed, accepted, Outcome}
+use Rattle.calls.specs.Outcome.{notWritten, agreed, accepted, Outcome}
 use Rattle.calls.specs.Lookup.{Looked, at, nowhere, unnamed, seek, answerOf, lookupChecks, lookupDone}
-use Rattle.calls.specs.Collection.{gives}
-use Rattle.calls.specs.Agreement.{eachBelow, isNowhere, alike, soundChecks, agreeChecks, agrees, agreeDone}
+use Rattle.calls.specs.Agreement.{eachBelow, isNamed, foundSo, missedSo, alike, soundChecks, allNamed, agreeChecks, agrees, agreeDone}
 use Rattle.calls.specs.History.{lookupCall, lend, lentTo, checksOf, effect, run}
-use Rattle.calls.specs.Alike.{Same, page, unwritten, Alike, YesIfAlike, AgreementSays}
-use Rattle.calls.proofs.Refusing.{Clear, clears, is-clear}
+use Rattle.calls.specs.Alike.{Alike, YesIfAlike, AgreementSays}
+use Rattle.calls.proofs.Refusing.{Clear, is-clear}
 use Rattle.calls.proofs.Decided.{Decided, refuses, accepts, decided, unless-accepts}
-use Rattle.calls.proofs.Agreeing.{each-below}
+use Rattle.calls.proofs.Agreeing.{each-below, Comparable, both-comparable}
 
--- Two searches are alike exactly if their answers are the same.
-same : (a b : Looked) → alike a b ≡ true → Same (answerOf a) (answerOf b)
-unfolding alike gives isNowhere answerOf
-same (at p q n) (at p′ q′ n′) e = subst (λ (r : ℕ). Same (answerOf (at p q n)) (answerOf (at r q′ n′))) (eqb-true p p′ e) (page p q n q′ n′)
+-- Two searches are alike exactly if their answers are the same and none is 7.
+same : (a b : Looked) → alike a b ≡ true → answerOf a ≡ answerOf b
+unfolding alike foundSo missedSo answerOf
+same (at p q n) (at p′ q′ n′) e =
+    let pq = and-l (eqb p p′ && eqb q q′) _ e in
+    rw (eqb-true p p′ (and-l _ _ pq), eqb-true q q′ (and-r (eqb p p′) _ pq), eqb-true n n′ (and-r (eqb p p′ && eqb q q′) _ e))
 same (at p q n) (nowhere n′) e = absurd (false≢true e)
 same (at p q n) unnamed e = absurd (false≢true e)
 same (nowhere n) (at p′ q′ n′) e = absurd (false≢true e)
-same (nowhere n) (nowhere n′) e = unwritten n n′
+same (nowhere n) (nowhere n′) e = ap notWritten (eqb-true n n′ e)
 same (nowhere n) unnamed e = absurd (false≢true e)
 same unnamed b e = absurd (false≢true e)
 
-alike-is : (a b : Looked) → Same (answerOf a) (answerOf b) → alike a b ≡ true
-unfolding alike gives isNowhere answerOf
-alike-is (at p q n) (at p′ q′ n′) (page _ _ _ _ _) = eq-eqb p p refl
-alike-is (nowhere n) (nowhere n′) (unwritten _ _) = refl
+alike-is : (a b : Looked) → isNamed a ≡ true → answerOf a ≡ answerOf b → alike a b ≡ true
+unfolding alike foundSo missedSo isNamed answerOf
+alike-is (at p q n) (at p′ q′ n′) h e =
+    let x : p ≡ p′ = cc in
+    let y : q ≡ q′ = cc in
+    let z : n ≡ n′ = cc in
+    and-i _ _ (and-i _ _ (eq-eqb p p′ x) (eq-eqb q q′ y)) (eq-eqb n n′ z)
+alike-is (at p q n) (nowhere n′) h e = let z : _≡_ {A = ℕ} 0 1 = cc in absurd (omega arith)
+alike-is (at p q n) unnamed h e = let z : _≡_ {A = ℕ} 0 1 = cc in absurd (omega arith)
+alike-is (nowhere n) (at p′ q′ n′) h e = let z : _≡_ {A = ℕ} 0 1 = cc in absurd (omega arith)
+alike-is (nowhere n) (nowhere n′) h e = let z : n ≡ n′ = cc in eq-eqb n n′ z
+alike-is (nowhere n) unnamed h e = let z : _≡_ {A = ℕ} 0 1 = cc in absurd (omega arith)
+alike-is unnamed b h e = absurd (false≢true h)
 
 -- each number below n passes a test that all of them do
-below-each : (n : ℕ) (t : ℕ → Bool) → eachBelow n t ≡ true → (x : ℕ) → x < n → t x ≡ true
+pub below-each : (n : ℕ) (t : ℕ → Bool) → eachBelow n t ≡ true → (x : ℕ) → x < n → t x ≡ true
 unfolding eachBelow
 below-each zero t e x b = absurd (omega arith)
 below-each (suc n) t e x b = go (eqb x n) refl (below-each n t (and-r (t n) _ e) x)
@@ -62,7 +70,7 @@ module _ (s : State) (spare : List ℕ) (s′ : State) (spare′ : List ℕ) whe
   abbrev alikeAt : ℕ → Bool
   alikeAt x = alike (seek s spare x) (seek s′ spare′ x)
 
-  module _ (clear : Clear (soundChecks s spare)) (clear′ : Clear (soundChecks s′ spare′)) where
+  module _ (c : Comparable s spare) (c′ : Comparable s′ spare′) where
     are-alike : agrees s spare s′ spare′ ≡ true → Alike s spare s′ spare′
     unfolding agrees
     are-alike e =
@@ -70,26 +78,17 @@ module _ (s : State) (spare : List ℕ) (s′ : State) (spare′ : List ℕ) whe
         record {
           numbers = n;
           lookups = λ x b.
-              subst (λ (a : Answer). Same a (run (lookupCall x) s′ spare′ .answer)) (sym (looked s spare clear x b))
-              (subst (Same (answerOf (seek s spare x))) (sym (looked s′ spare′ clear′ x (omega (arith, n, b))))
-              (same _ _ (below-each (s .device .N) alikeAt (and-r (eqb (s .device .N) _) _ e) x b)));
+              looked s spare (c .clear) x b
+              ∙ same _ _ (below-each (s .device .N) alikeAt (and-r (eqb (s .device .N) _) _ e) x b)
+              ∙ sym (looked s′ spare′ (c′ .clear) x (omega (arith, n, b)));
         }
 
     alike-agree : Alike s spare s′ spare′ → agrees s spare s′ spare′ ≡ true
-    unfolding agrees
+    unfolding agrees allNamed
     alike-agree a =
         and-i _ _ (eq-eqb _ _ (a .numbers)) (each-below (s .device .N) alikeAt (λ x b.
-        alike-is _ _ (subst (λ (r : Answer). Same r (answerOf (seek s′ spare′ x))) (looked s spare clear x b)
-        (subst (Same (run (lookupCall x) s spare .answer)) (looked s′ spare′ clear′ x (omega (arith, a .numbers, b))) (a .lookups x b)))))
-
--- An agreement that is not refused: the checks of both states are clear.
-sound-clear : (s : State) (spare : List ℕ) (s′ : State) (spare′ : List ℕ) → firstRefusal (agreeChecks s spare s′ spare′) ≡ none
-    → Clear (soundChecks s spare) × Clear (soundChecks s′ spare′)
-unfolding agreeChecks
-sound-clear s spare s′ spare′ e =
-    let c = clears (agreeChecks s spare s′ spare′) e in
-    let d = c .1 .1 .1 .1 in
-    ((c .0, (c .1 .0, (c .1 .1 .0, (c .1 .1 .1 .0, tt)))), (d .0, (d .1 .0, (d .1 .1 .0, (d .1 .1 .1 .0, tt)))))
+        alike-is _ _ (below-each (s .device .N) (λ y. isNamed (seek s spare y)) (c .named) x b)
+        (sym (looked s spare (c .clear) x b) ∙ a .lookups x b ∙ looked s′ spare′ (c′ .clear) x (omega (arith, a .numbers, b)))))
 
 pub agreement-says : AgreementSays
 unfolding run lentTo lend checksOf effect agreeDone accepted
@@ -99,7 +98,7 @@ agreement-says s spare s′ spare′ here area = go (decided (agreeChecks s spar
         → YesIfAlike s spare s′ spare′ (o .answer)
     go (refuses r e) f = absurd (false≢true f)
     go (accepts e) f =
-        let c = sound-clear s spare s′ spare′ e in
+        let c = both-comparable s spare s′ spare′ e in
         record {
           yes = λ a. ap agreed (alike-agree s spare s′ spare′ (c .0) (c .1) a);
           only = λ q. are-alike s spare s′ spare′ (c .0) (c .1) (let z : agrees s spare s′ spare′ ≡ true = cc in z);

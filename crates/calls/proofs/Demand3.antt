@@ -13,7 +13,7 @@ use Rattle.calls.specs.Demand3.{pageMaps, definitions, agreementOf, Righ
 use Rattle.calls.proofs.MapDemand.{map-demand}
 use Rattle.calls.proofs.Simulation.{from-format, carry}
 use Rattle.calls.proofs.Refining.{Shows, refines}
-use Rattle.calls.proofs.Agreeing.{agree-clear}
+use Rattle.calls.proofs.Agreeing.{inv-comparable, agree-clear}
 use Rattle.calls.proofs.Decided.{unless-accepts}
 
 -- Demand 3, of the definitions.
@@ -24,7 +24,7 @@ definitions-demand = record {
   agreements = λ g h f f′ i a i′ made.
       let k = from-format definitions pageMaps Shows refines g f .2 in
       let l = from-format definitions pageMaps Shows refines h f′ .2 in
-      ap accepted (made .answered ∙ ap (λ (o : Outcome). o .answer) (unless-accepts _ _ _ (agree-clear (g .state) (g .spare) _ (k .inv) (h .state) (h .spare) _ (l .inv))));
+      ap accepted (made .answered ∙ ap (λ (o : Outcome). o .answer) (unless-accepts _ _ _ (agree-clear (g .state) (g .spare) (h .state) (h .spare) (inv-comparable _ _ _ (k .inv)) (inv-comparable _ _ _ (l .inv)))));
 }
 
 -- "with one flash read where the prediction is right and two where it isn't": by the values of an answer that is right

@@ -33,3 +33,4 @@ pub mod PredictedPage
 pub mod OthersStay
 pub mod Bounds
 pub mod Demand3
+pub mod Swapping

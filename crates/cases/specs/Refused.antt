@@ -226,20 +226,24 @@ refusals = refl
 says : Device → List Call → Device → List Call → Answer
 says d cs d′ cs′ = run (agreementOf (formattedThen d cs) (formattedThen d′ cs′)) (new .state) (new .spare) .answer
 
--- "yes if N is equal and every lookup gives the same page, or 'not written' in both"
+-- "yes if N is equal and every lookup gives the same page, or 'not written' in both", and "also .. the same predicted page and the same
+-- count of levels"
 pub agreements : List Answer
 agreements =
-    -- nothing written in both; the same page; another page; written in one only; nothing written, but N differs; discarded in one, which
-    -- is 'not written' too; discarded in one only
+    -- nothing written in both; the same page; another page; written in one only; nothing written, but N differs; discarded in one and never
+    -- written in the other, 0 levels and 1; the same in a group without records, 0 levels in both; discarded in one and written in the
+    -- other; discarded in both
     says small [] small []
     ∷ says small (flushOn small (0 ∷ []) ∷ []) small (flushOn small (0 ∷ []) ∷ [])
     ∷ says small (flushOn small (0 ∷ 1 ∷ []) ∷ []) small (flushOn small (0 ∷ []) ∷ flushOn small (1 ∷ []) ∷ [])
     ∷ says small (flushOn small (0 ∷ []) ∷ []) small []
     ∷ says small [] (record { M = 3; B = 4; N = 3; g = 0 }) []
-    ∷ says small (flushOn small (0 ∷ []) ∷ discardCall 0 ∷ []) small []
+    ∷ says small (flushOn small (1 ∷ []) ∷ discardCall 0 ∷ []) small (flushOn small (1 ∷ []) ∷ [])
+    ∷ says small (discardCall 0 ∷ []) small []
     ∷ says small (flushOn small (0 ∷ []) ∷ discardCall 0 ∷ []) small (flushOn small (0 ∷ []) ∷ [])
+    ∷ says small (flushOn small (0 ∷ []) ∷ discardCall 0 ∷ []) small (flushOn small (0 ∷ []) ∷ discardCall 0 ∷ [])
     ∷ []
 
-pub agree : agreements ≡ agreed true ∷ agreed true ∷ agreed false ∷ agreed false ∷ agreed false ∷ agreed true ∷ agreed false ∷ []
+pub agree : agreements ≡ agreed true ∷ agreed true ∷ agreed false ∷ agreed false ∷ agreed false ∷ agreed false ∷ agreed true ∷ agreed false ∷ agreed true ∷ []
 unfolding everything small unformatted flushOn collectOn formattedThen new says agreements
 agree = refl

@@ -1,11 +1,12 @@
 -- How document 01's cases show what the definitions give. Assumes nothing.
-use mathlib.Core.List.{List, [], _∷_, map}
+use mathlib.Core.List.{List, [], _∷_, _++_, map}
 use Prim.Native.Nat.{ℕ}
 use lib.IntN.{ℤ}
 use Rattle.model.specs.Record.{predict}
 use Rattle.model.specs.Learning.{Run, learn, sorted, sources}
 use Rattle.calls.specs.Outcome.{Answer, Outcome}
 use Rattle.calls.specs.History.{Call, lookupCall, Past, run, step}
+use Rattle.calls.specs.Demand3.{agreementOf}
 
 -- "Records as S, L, word, I", with the group.
 pub record Row : Type 0 where
@@ -57,3 +58,7 @@ called (c ∷ cs) h = showOutcome (run c (h .state) (h .spare)) ∷ called cs (s
 unfoldable pub lookups : Past → List ℕ → List Shown
 lookups h [] = []
 lookups h (x ∷ xs) = showOutcome (run (lookupCall x) (h .state) (h .spare)) ∷ lookups h xs
+
+-- lookups of these logical pages on one state, on another, and what the agreement of the two says
+unfoldable pub compared : Past → Past → List ℕ → List Shown
+compared g h xs = lookups g xs ++ lookups h xs ++ (showOutcome (run (agreementOf g h) (g .state) (g .spare)) ∷ [])

@@ -1,14 +1,15 @@
--- Document 01, 'Cases': those marked P, with one of a discarded page and two of wrong predictions (document 02, a and b), as one table.
--- What the definitions give is what the documents say. Assumes nothing.
+-- Document 01, 'Cases': those marked P, with one of a discarded page, two of wrong predictions and three of agreement (document 02, a, b
+-- and f), as one table. What the definitions give is what the documents say. Assumes nothing.
 use mathlib.Core.Path.{_≡_, refl}
 use mathlib.Core.List.{List, [], _∷_, _++_}
+use mathlib.Core.Bool.{false}
 use Prim.Native.Nat.{ℕ, zero, suc}
 use lib.IntN.{pos, negsuc}
 use Rattle.model.specs.Device.{Device}
 use Rattle.calls.specs.Refusals.{noFreeBlock}
-use Rattle.calls.specs.Outcome.{formatted, flushed, found, notWritten, discarded, collected, refused}
-use Rattle.calls.specs.History.{Call, formatCall, lookupCall, discardCall, Past, step, steps}
-use Rattle.cases.specs.Shown.{Shown, records, predictions, plan, answer, row, learned, predicted, planned, called, lookups}
+use Rattle.calls.specs.Outcome.{formatted, flushed, found, notWritten, discarded, collected, agreed, refused}
+use Rattle.calls.specs.History.{Call, formatCall, lookupCall, discardCall, compactCall, Past, step, steps}
+use Rattle.cases.specs.Shown.{Shown, records, predictions, plan, answer, row, learned, predicted, planned, called, lookups, compared}
 use Rattle.cases.specs.Small.{small, unformatted, flushOn, collectOn}
 use Rattle.cases.specs.Opens.{everything}
 
@@ -45,6 +46,30 @@ early =
 late : Past
 late = step (flushOf (pages 59 32)) early
 
+-- M 4, B 4, N 4, g 0: flush 1; 0, 2; 0. Then group 0 compacted
+four : Device
+four = record { M = 4; B = 4; N = 4; g = 0 }
+
+grown : Past
+grown = steps (formatCall four ∷ flushOn four (1 ∷ []) ∷ flushOn four (0 ∷ 2 ∷ []) ∷ flushOn four (0 ∷ []) ∷ []) (unformatted four)
+
+tidied : Past
+tidied = step (compactCall 0) grown
+
+-- M 3, B 4, N 4, g 0: flush 0, 1. Then 3 discarded
+pair : Past
+pair = steps (formatCall small ∷ flushOn small (0 ∷ 1 ∷ []) ∷ []) (unformatted small)
+
+withoutLast : Past
+withoutLast = step (discardCall 3) pair
+
+-- M 3, B 8, N 8, g 1: flush a batch; discard 6
+eight : Device
+eight = record { M = 3; B = 8; N = 8; g = 1 }
+
+withoutSix : List ℕ → Past
+withoutSix batch = steps (formatCall eight ∷ flushOn eight batch ∷ discardCall 6 ∷ []) (unformatted eight)
+
 -- what the definitions give
 pub given : List Shown
 given =
@@ -59,7 +84,8 @@ given =
     ∷ learned 0 0 (255 ∷ 256 ∷ [])
     ∷ learned 1 0 (255 ∷ 256 ∷ [])
     ∷ planned (7 ∷ 7 ∷ [])
-    ∷ (called smallCalls (unformatted small) ++ called discardCalls (unformatted small) ++ (lookups early (50 ∷ 78 ∷ 82 ∷ []) ++ lookups late (78 ∷ [])))
+    ∷ (called smallCalls (unformatted small) ++ called discardCalls (unformatted small) ++ (lookups early (50 ∷ 78 ∷ 82 ∷ []) ++ lookups late (78 ∷ []))
+    ++ compared grown tidied (pages 4 0) ++ compared pair withoutLast (pages 4 0) ++ compared (withoutSix (0 ∷ 1 ∷ 2 ∷ 6 ∷ [])) (withoutSix (0 ∷ 1 ∷ 2 ∷ [])) (pages 8 0))
 
 -- what document 01 says; an answer's numbers in its order, so a lookup's are page, predicted page, levels
 pub stated : List Shown
@@ -111,9 +137,47 @@ stated =
     ∷ answer (found 194 194 2) [] []
     -- "lookup 78: page 366, 1 level"
     ∷ answer (found 366 366 1) [] []
+    -- flush 1; 0, 2; 0: lookup 1 looks at 2 levels; once group 0 is compacted, at 1. So agreement says no, though every page is the same
+    ∷ answer (found 8 8 1) [] []
+    ∷ answer (found 0 0 2) [] []
+    ∷ answer (found 5 5 1) [] []
+    ∷ answer (notWritten 2) [] []
+    ∷ answer (found 8 8 1) [] []
+    ∷ answer (found 0 0 1) [] []
+    ∷ answer (found 5 5 1) [] []
+    ∷ answer (notWritten 1) [] []
+    ∷ answer (agreed false) [] []
+    -- flush 0, 1: 3 was never written, 1 level; once it is discarded, 0 levels
+    ∷ answer (found 0 0 1) [] []
+    ∷ answer (found 1 1 1) [] []
+    ∷ answer (notWritten 1) [] []
+    ∷ answer (notWritten 1) [] []
+    ∷ answer (found 0 0 1) [] []
+    ∷ answer (found 1 1 1) [] []
+    ∷ answer (notWritten 1) [] []
+    ∷ answer (notWritten 0) [] []
+    ∷ answer (agreed false) [] []
+    -- flush 0, 1, 2, 6, or 0, 1, 2, and discard 6: only the page predicted for 2 is another
+    ∷ answer (found 0 0 1) [] []
+    ∷ answer (found 1 1 1) [] []
+    ∷ answer (found 2 1 1) [] []
+    ∷ answer (notWritten 1) [] []
+    ∷ answer (notWritten 1) [] []
+    ∷ answer (notWritten 1) [] []
+    ∷ answer (notWritten 0) [] []
+    ∷ answer (notWritten 1) [] []
+    ∷ answer (found 0 0 1) [] []
+    ∷ answer (found 1 1 1) [] []
+    ∷ answer (found 2 2 1) [] []
+    ∷ answer (notWritten 1) [] []
+    ∷ answer (notWritten 1) [] []
+    ∷ answer (notWritten 1) [] []
+    ∷ answer (notWritten 0) [] []
+    ∷ answer (notWritten 1) [] []
+    ∷ answer (agreed false) [] []
     ∷ []
 
 -- The table.
 pub table : given ≡ stated
-unfolding everything small unformatted flushOn collectOn pages smallCalls discardCalls scripted flushOf early late given stated
+unfolding everything small unformatted flushOn collectOn pages smallCalls discardCalls scripted flushOf early late four grown tidied pair withoutLast eight withoutSix given stated
 table = refl

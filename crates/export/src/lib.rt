@@ -120,7 +120,7 @@ pub extern "C" fn hedjosur_compact(state: &mut [u8], group: u32) -> u64
     pack::compact(compact(state, group))
 }
 
-// Document 01's agreement: 1 yes, 0 no.
+// Document 01's agreement, with what document 02 also wants: 1 yes, 0 no.
 #[no_mangle]
 pub extern "C" fn hedjosur_agree(
     state_a: &[u8],

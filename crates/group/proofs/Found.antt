@@ -29,7 +29,7 @@ holder-sound N k o (x ∷ l) r h e = go (member x o) e (holder-sound N k o l r (
     go false q ih = ih q
 
 -- the word is at most 2 × 256 + 1
-sound-word : (N k : ℕ) (r : model.Record) → soundRecord N k r ≡ true → r .word ≤ 513
+pub sound-word : (N k : ℕ) (r : model.Record) → soundRecord N k r ≡ true → r .word ≤ 513
 unfolding soundAs
 sound-word N k r h = go (eqb (r .word) 0) (eqb (r .word % 2) 1) refl refl (record-parts N k r h .shape)
   where

@@ -35,7 +35,7 @@ unfolding slotsOf
 in-slots b i h = let e : 0 + i ≡ i = omega arith in rw e at (in-from b 0 (usedOf b) i h)
 
 module _ (b : List ℕ) (g : SoundBytes b) (n i : ℕ) (all : n ≡ usedOf b) (h : i < n) (s : Slot) (is : s ≡ slotOf b i) where
-  slot-sound : soundRecord (g .pages) (g .number) (recordOf (ownerOf b) s) ≡ true
+  pub slot-sound : soundRecord (g .pages) (g .number) (recordOf (ownerOf b) s) ≡ true
   slot-sound =
       let e = listing-read b (sound-encodes (g .pages) (g .number) b (g .sound)) in
       rw is (all-in (soundRecord (g .pages) (g .number)) (rw e at (group-parts (g .pages) (g .number) _ (g .sound) .records)) (in-map (recordOf (ownerOf b)) (in-slots b i (omega arith))))

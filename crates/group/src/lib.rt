@@ -104,7 +104,7 @@ pub fn owner(b: &[u8], o: u32) -> u32
 }
 
 // How many levels the first i slots have.
-fn levels_at(b: &[u8], i: usize) -> u32
+pub fn levels_at(b: &[u8], i: usize) -> u32
     requires { ⌜ (length (now b) ≡ groupLength) × (i ≤ groupLimit) ⌝ }
     ensures { λ r. ⌜ r ≡ levelsAt (now (b .entry)) i ⌝ }
 {

@@ -39,7 +39,7 @@ simulates = record {
   starts = λ h d a h′ made t. (readPast h, readPast h′, run-step h _ a h′ made, refl);
 }
 
-read-format : (h : Buffers) → FromFormat functions h → FromFormat definitions (readPast h)
+pub read-format : (h : Buffers) → FromFormat functions h → FromFormat definitions (readPast h)
 read-format h f = let k = from-format functions definitions Read simulates h f in subst (FromFormat definitions) (sym (k .2)) (k .1)
 
 -- Demand 3, of every list of runs.

@@ -1,3 +1,4 @@
 pub mod Demand3
+pub mod Swapping
 pub mod PlainDemand3
 pub mod EnginesAgree

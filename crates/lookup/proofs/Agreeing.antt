@@ -1,29 +1,29 @@
--- The ways in which an agreement ends: its refusals in order, and its answer, by one pass over the logical pages where N is equal.
+-- The ways in which an agreement ends: its refusals in order, and its answer, group after group where N is equal.
 -- Assumes nothing.
 use mathlib.Core.Path.{_≡_, refl, sym, ap, _∙_}
 use mathlib.Core.List.{List, _++_}
 use mathlib.Core.Option.{none, some}
-use mathlib.Core.Bool.{Bool, true, false, _&&_}
-use Prim.Native.Nat.{ℕ, _+_, _<_}
+use mathlib.Core.Bool.{Bool, true, false, _&&_, true≢false}
+use Prim.Native.Nat.{ℕ, _+_, _-_, _≤_}
 use native.Mathlib.Omega.{arith}
 use lib.Dec.{eqb}
-use lib.ListN.{length}
 use borrow.Author.Tests.{eq-eqb, ne-eqb, not-false}
-use Rattle.model.specs.Device.{Device, groupOf, spareLength}
+use Rattle.model.specs.Device.{Device, groupOf}
 use Rattle.model.specs.State.{State, groupAt}
 use Rattle.model.specs.Sound.{soundGroup, soundState}
+use Rattle.model.proofs.Bools.{is-false, and-r}
 use Rattle.calls.specs.Refusals.{Refusal, notSound, notNamed, firstRefusal, openingWith}
 use Rattle.calls.specs.Outcome.{Answer, agreed, refused}
 use Rattle.calls.specs.Lookup.{seek}
 use Rattle.calls.specs.Agreement.{eachBelow, isNamed, alike, soundChecks, allNamed, agreeChecks, agrees, agreeDone}
 use Rattle.calls.specs.History.{agreeCall, lend, lentTo, checksOf, effect}
 use Rattle.calls.proofs.Refusing.{front-refuses, others-decide, refuses-at, clears, is-clear}
-use Rattle.state.specs.Shaped.{Shaped, Passed}
+use Rattle.state.specs.Shaped.{Passed}
 use Rattle.state.specs.Ran.{deviceSlices, Ran}
 use Rattle.state.proofs.Refusing.{ran-refused, ran-accepted, opened-with}
 use Rattle.state.proofs.Handing.{sound-at}
-use Rattle.lookup.specs.Agreeing.{compared}
-use Rattle.lookup.proofs.Comparing.{each-not, each-more, each-all}
+use Rattle.lookup.specs.Agreeing.{compared, comparedFrom}
+use Rattle.lookup.proofs.Each.{each-join}
 
 -- the refusals of a state with its spare area, and its lookups
 module _ (s : State) (spare : List ℕ) where
@@ -46,25 +46,22 @@ module _ (s : State) (spare : List ℕ) where
 
 -- a state that passed them
 module _ (d : Device) (s : State) (spare : List ℕ) (h : Passed d s spare) where
-  -- every logical page's lookup can be made
-  pub can-seek : (x : ℕ) → x < d .N → Shaped d s × (length spare ≡ spareLength d) × (x < d .N) × (soundGroup (d .N) (groupOf x) (groupAt s (groupOf x)) ≡ true)
-  can-seek x l = (h .shape, h .fits, l, sound-at d s (h .shape) (h .sound) (groupOf x))
+  -- every group's forecasts can be made
+  pub can-foretell : (x : ℕ) → soundGroup (d .N) (groupOf x) (groupAt s (groupOf x)) ≡ true
+  can-foretell x = sound-at d s (h .shape) (h .sound) (groupOf x)
 
-  all-named-is : allNamed s spare ≡ eachBelow (d .N) (namedAt s spare)
+  pub all-named-is : allNamed s spare ≡ eachBelow (d .N) (namedAt s spare)
   unfolding allNamed
   all-named-is = ap (λ (e : Device). eachBelow (e .N) (namedAt s spare)) (h .shape .numbers)
-
-  -- a page whose lookup refuses 7, or none
-  pub page-unnamed : (x : ℕ) → x < d .N → namedAt s spare x ≡ false → allNamed s spare ≡ false
-  page-unnamed x l e = all-named-is ∙ each-not (d .N) x (namedAt s spare) l e
-
-  pub pages-named : (x : ℕ) → x ≡ d .N → eachBelow x (namedAt s spare) ≡ true → allNamed s spare ≡ true
-  pages-named x q e = all-named-is ∙ each-all (d .N) x (namedAt s spare) true q e
 
 -- the two states
 module _ (s : State) (spare : List ℕ) (s′ : State) (spare′ : List ℕ) where
   abbrev pub alikeAt : ℕ → Bool
   alikeAt x = alike (seek s spare x) (seek s′ spare′ x)
+
+  -- what the m logical pages from x on come to
+  abbrev pub fromHere : ℕ → ℕ → Answer
+  fromHere x m = comparedFrom (seek s spare) (seek s′ spare′) x m
 
   -- The lookups of the logical pages before x: all are named, in both states, and `same` says whether they are alike.
   pub record Compared (x : ℕ) (same : Bool) : Type 0 where
@@ -72,16 +69,48 @@ module _ (s : State) (spare : List ℕ) (s′ : State) (spare′ : List ℕ) whe
     pub named′ : eachBelow x (namedAt s′ spare′) ≡ true
     pub told : eachBelow x alikeAt ≡ same
 
-  -- one more page whose lookups are alike, or not
-  module _ (x : ℕ) (same : Bool) (c : Compared x same) (e : namedAt s spare x ≡ true) (f : namedAt s′ spare′ x ≡ true) where
-    more : (t : Bool) → eachBelow (x + 1) alikeAt ≡ t → Compared (x + 1) t
-    more t q = record { named = each-more x _ true (c .named) e; named′ = each-more x _ true (c .named′) f; told = q }
+  -- m more of them
+  module _ (x m : ℕ) where
+    -- they come to 7, or each is named
+    data Next : Answer → Type 0 where
+      seven : (eachBelow (x + m) (namedAt s spare) && eachBelow (x + m) (namedAt s′ spare′)) ≡ false → Next (refused notNamed)
+      all : eachBelow m (λ o. namedAt s spare (x + o)) ≡ true → eachBelow m (λ o. namedAt s′ spare′ (x + o)) ≡ true → Next (agreed (eachBelow m (λ o. alikeAt (x + o))))
 
-    pub more-alike : alikeAt x ≡ true → Compared (x + 1) same
-    more-alike q = more same (each-more x _ same (c .told) q)
+    next : Next (fromHere x m)
+    unfolding comparedFrom
+    next = go (eachBelow m (λ o. namedAt s spare (x + o))) refl (eachBelow m (λ o. namedAt s′ spare′ (x + o))) refl
+      where
+        go : (t : Bool) → eachBelow m (λ o. namedAt s spare (x + o)) ≡ t → (u : Bool) → eachBelow m (λ o. namedAt s′ spare′ (x + o)) ≡ u → Next (fromHere x m)
+        go true e true f = rw (e, f, comparedFrom) (all e f)
+        go true e false f = rw (e, f, comparedFrom) (seven (rw (each-join x m (namedAt s′ spare′), f) (none (eachBelow (x + m) (namedAt s spare)))))
+          where
+            none : (t : Bool) → (t && false) ≡ false
+            none true = refl
+            none false = refl
+        go false e u f = rw (e, comparedFrom) (seven (rw (each-join x m (namedAt s spare), e)))
 
-    pub more-apart : alikeAt x ≡ false → Compared (x + 1) false
-    more-apart q = more false (each-not (x + 1) x _ (omega arith) q)
+    joined : (same t : Bool) → Compared x same → eachBelow m (λ o. namedAt s spare (x + o)) ≡ true → eachBelow m (λ o. namedAt s′ spare′ (x + o)) ≡ true
+        → eachBelow m (λ o. alikeAt (x + o)) ≡ t → Compared (x + m) (t && same)
+    joined same t c e f q = record {
+      named = rw (each-join x m (namedAt s spare), e) (c .named);
+      named′ = rw (each-join x m (namedAt s′ spare′), f) (c .named′);
+      told = rw (each-join x m alikeAt, q, c .told) refl;
+    }
+
+    by-next : (a : Answer) → Next a → (same : Bool) → Compared x same → (t : Bool) → agreed t ≡ a → Compared (x + m) (t && same)
+    by-next _ (seven n) same c t y = let z : _≡_ {A = ℕ} 0 1 = cc in absurd (omega arith)
+    by-next _ (all e f) same c t y = joined same t c e f (let z : eachBelow m (λ o. alikeAt (x + o)) ≡ t = cc in z)
+
+    pub more-told : (same : Bool) → Compared x same → (t : Bool) → agreed t ≡ fromHere x m → Compared (x + m) (t && same)
+    more-told same c t y = by-next (fromHere x m) next same c t y
+
+    -- they come to 7: so do all
+    seven-next : (a : Answer) → Next a → (r : Refusal) → refused r ≡ a → (eachBelow (x + m) (namedAt s spare) && eachBelow (x + m) (namedAt s′ spare′)) ≡ false
+    seven-next _ (seven n) r y = n
+    seven-next _ (all e f) r y = let z : _≡_ {A = ℕ} 0 1 = cc in absurd (omega arith)
+
+    pub more-refuses : (r : Refusal) → refused r ≡ fromHere x m → (eachBelow (x + m) (namedAt s spare) && eachBelow (x + m) (namedAt s′ spare′)) ≡ false
+    more-refuses r y = seven-next (fromHere x m) next r y
 
   -- behind the checks of both: 7, for either ..
   pub first-unnamed : allNamed s spare ≡ false → refused notNamed ≡ compared s spare s′ spare′
@@ -111,11 +140,25 @@ module _ (s : State) (spare : List ℕ) (s′ : State) (spare′ : List ℕ) whe
     pub other-numbers : allNamed s spare ≡ true → allNamed s′ spare′ ≡ true → (d .N ≡ d′ .N → ⊥) → agreed false ≡ compared s spare s′ spare′
     other-numbers e f q = answers e f false (rw (ne-eqb (d .N) (d′ .N) q))
 
-    -- every page was compared
-    pub all-compared : (x : ℕ) (same : Bool) → Compared x same → x ≡ d .N → d .N ≡ d′ .N → (t : Bool) → same ≡ t → agreed t ≡ compared s spare s′ spare′
-    all-compared x same c l q t e =
-        answers (pages-named d s spare h x l (c .named)) (pages-named d′ s′ spare′ h′ x (l ∙ q) (c .named′)) t
-        (rw (eq-eqb (d .N) (d′ .N) q) (each-all (d .N) x alikeAt t l (c .told ∙ e)))
+    module _ (q : d .N ≡ d′ .N) where
+      -- every page was compared
+      pub all-compared : (x : ℕ) (same : Bool) → Compared x same → x ≡ d .N → (t : Bool) → same ≡ t → agreed t ≡ compared s spare s′ spare′
+      all-compared x same c l t e =
+          answers (all-named-is d s spare h ∙ (rw l at (c .named))) (all-named-is d′ s′ spare′ h′ ∙ (rw (l ∙ q) at (c .named′))) t
+          (rw (eq-eqb (d .N) (d′ .N) q, ← l) (c .told ∙ e))
+
+      -- a page before y is not named, in one of them
+      pub early-refuses : (y : ℕ) → y ≤ d .N → (eachBelow y (namedAt s spare) && eachBelow y (namedAt s′ spare′)) ≡ false → refused notNamed ≡ compared s spare s′ spare′
+      early-refuses y low n = go (eachBelow y (namedAt s spare)) refl n
+        where
+          behind : (f : ℕ → Bool) → eachBelow y f ≡ false → eachBelow (d .N) f ≡ false
+          behind f e =
+              let all : d .N ≡ y + (d .N - y) = omega arith in
+              rw (all, each-join y (d .N - y) f, e) (is-false _ (λ z. true≢false (sym (and-r (eachBelow (d .N - y) (λ o. f (y + o))) false z))))
+
+          go : (u : Bool) → eachBelow y (namedAt s spare) ≡ u → (u && eachBelow y (namedAt s′ spare′)) ≡ false → refused notNamed ≡ compared s spare s′ spare′
+          go true e f = second-unnamed (all-named-is d′ s′ spare′ h′ ∙ (rw q at (behind (namedAt s′ spare′) f)))
+          go false e f = first-unnamed (all-named-is d s spare h ∙ behind (namedAt s spare) e)
 
   -- agreement writes nothing: any state and spare area stay
   module _ (state other : List ℕ) where
@@ -146,3 +189,24 @@ module _ (s : State) (spare : List ℕ) (s′ : State) (spare′ : List ℕ) whe
           go false n =
               let z : a ≡ refused notNamed = q ∙ rw (n, compared) in
               rw z (refuses notNamed (others-decide _ _ front ∙ refuses-at 0 _ refl tt (rw n)))
+
+-- a state compared with itself tells whether a lookup refuses 7
+module _ (s : State) (spare : List ℕ) where
+  self-is : (t : Bool) → allNamed s spare ≡ t → compared s spare s spare ≡ elim t [ true ↦ agreed (agrees s spare s spare) | false ↦ refused notNamed ]
+  unfolding compared
+  self-is true e = rw (e, compared)
+  self-is false e = rw (e, compared)
+
+  pub self-answers : (t : Bool) → agreed t ≡ compared s spare s spare → allNamed s spare ≡ true
+  self-answers t y = go (allNamed s spare) refl
+    where
+      go : (u : Bool) → allNamed s spare ≡ u → allNamed s spare ≡ true
+      go true e = e
+      go false e = let z : agreed t ≡ refused notNamed = y ∙ self-is false e in let w : _≡_ {A = ℕ} 0 1 = cc in absurd (omega arith)
+
+  pub self-refuses : (r : Refusal) → refused r ≡ compared s spare s spare → allNamed s spare ≡ false
+  self-refuses r y = go (allNamed s spare) refl
+    where
+      go : (u : Bool) → allNamed s spare ≡ u → allNamed s spare ≡ false
+      go true e = let z : refused r ≡ agreed (agrees s spare s spare) = y ∙ self-is true e in let w : _≡_ {A = ℕ} 0 1 = cc in absurd (omega arith)
+      go false e = e

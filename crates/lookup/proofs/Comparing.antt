@@ -1,18 +1,14 @@
--- What lookups came to, told apart by their variants, and passes over all logical pages: every page passes if those before each
--- one do. Assumes nothing.
-use mathlib.Core.Path.{_≡_, refl, sym}
+-- What lookups came to, told apart by their variants, and compared. Assumes nothing.
+use mathlib.Core.Path.{_≡_, refl}
 use mathlib.Core.Logic.{_⊎_, inl, inr}
-use mathlib.Core.Bool.{true≢false, Bool, true, false, _&&_}
-use Prim.Native.Nat.{ℕ, zero, suc, _+_, _≤_, _<_}
+use mathlib.Core.Bool.{true, false}
+use Prim.Native.Nat.{ℕ}
 use native.Mathlib.Omega.{arith}
-use native.Mathlib.Numerals.{add-one}
+use lib.Dec.{eqb}
+use borrow.Author.Tests.{eq-eqb, ne-eqb}
 use denote.Enum.Declared.{tagOf}
-use Rattle.model.proofs.Lists.{le-cases}
-use Rattle.model.proofs.Bools.{is-false, and-r}
-use Rattle.calls.specs.Lookup as calls
-use Rattle.calls.specs.Collection.{gives}
-use Rattle.calls.specs.Agreement.{eachBelow, isNowhere, isNamed, alike}
-use Rattle.answers.specs.declared.Refusal.{Refusal}
+use Rattle.calls.specs.Lookup.{Looked, at}
+use Rattle.calls.specs.Agreement.{isNamed, foundSo, missedSo, alike}
 use Rattle.answers.specs.declared.Lookup.{Lookup}
 use Rattle.answers.specs.declared.Lookup.the-variants.{Found, NotWritten, Refused}
 use Rattle.answers.specs.Answers.{asLooked}
@@ -22,59 +18,50 @@ use Rattle.answers.proofs.Lookup.{the-type}
 abbrev pub variant : Lookup → ℕ
 variant s = tagOf the-type s
 
-pub not-unwritten : (s : Lookup) → (variant s ≡ 0) ⊎ (variant s ≡ 2) → false ≡ isNowhere (asLooked s)
-unfolding isNowhere asLooked
-not-unwritten (Found f) e = refl
-not-unwritten (NotWritten n) (inl e) = absurd (omega (arith, e))
-not-unwritten (NotWritten n) (inr e) = absurd (omega (arith, e))
-not-unwritten (Refused r) e = refl
+-- a lookup that ends in another way than by a refusal is named
+pub not-refused : (s : Lookup) → (variant s ≡ 0) ⊎ (variant s ≡ 1) → true ≡ isNamed (asLooked s)
+unfolding isNamed asLooked
+not-refused (Found f) e = refl
+not-refused (NotWritten n) e = refl
+not-refused (Refused r) (inl e) = absurd (omega (arith, e))
+not-refused (Refused r) (inr e) = absurd (omega (arith, e))
 
--- no page was found: it is not written, or refused
-pub data Missing : Lookup → Type 0 where
-  unwritten : {n : ℕ} → Missing (NotWritten n)
-  unnamed : {r : Refusal} → Missing (Refused r)
+-- in another way than with a page: none is found
+pub not-found : (p q n : ℕ) (s : Lookup) → (variant s ≡ 1) ⊎ (variant s ≡ 2) → false ≡ foundSo p q n (asLooked s)
+unfolding foundSo asLooked
+not-found p q n (Found f) (inl e) = absurd (omega (arith, e))
+not-found p q n (Found f) (inr e) = absurd (omega (arith, e))
+not-found p q n (NotWritten m) e = refl
+not-found p q n (Refused r) e = refl
 
-pub missing : (s : Lookup) → (variant s ≡ 1) ⊎ (variant s ≡ 2) → Missing s
-missing (Found f) (inl e) = absurd (omega (arith, e))
-missing (Found f) (inr e) = absurd (omega (arith, e))
-missing (NotWritten n) e = unwritten
-missing (Refused r) e = unnamed
+-- in another way than by 'not written'
+pub not-missed : (n : ℕ) (s : Lookup) → (variant s ≡ 0) ⊎ (variant s ≡ 2) → false ≡ missedSo n (asLooked s)
+unfolding missedSo asLooked
+not-missed n (Found f) e = refl
+not-missed n (NotWritten m) (inl e) = absurd (omega (arith, e))
+not-missed n (NotWritten m) (inr e) = absurd (omega (arith, e))
+not-missed n (Refused r) e = refl
 
-pub missing-named : {s : Lookup} → Missing s → isNowhere (asLooked s) ≡ isNamed (asLooked s)
-unfolding isNowhere isNamed asLooked
-missing-named unwritten = refl
-missing-named unnamed = refl
+-- in neither: it is alike to none
+pub neither-alike : (s : Lookup) → (variant s ≡ 1) ⊎ (variant s ≡ 2) → (variant s ≡ 0) ⊎ (variant s ≡ 2) → (b : Looked) → false ≡ alike (asLooked s) b
+unfolding alike asLooked
+neither-alike (Found f) (inl e) k b = absurd (omega (arith, e))
+neither-alike (Found f) (inr e) k b = absurd (omega (arith, e))
+neither-alike (NotWritten n) e (inl k) b = absurd (omega (arith, k))
+neither-alike (NotWritten n) e (inr k) b = absurd (omega (arith, k))
+neither-alike (Refused r) e k b = refl
 
-pub missing-unlike : {s : Lookup} → Missing s → isNowhere (asLooked s) ≡ false → (b : calls.Looked) → false ≡ alike (asLooked s) b
-unfolding isNowhere alike asLooked
-missing-unlike unwritten e b = absurd (true≢false e)
-missing-unlike unnamed e b = refl
+-- two that found a page are not alike by another page, or by another predicted page; else the counts of levels decide
+module _ (p q n p′ q′ n′ : ℕ) where
+  pub other-page : (p ≡ p′ → ⊥) → false ≡ foundSo p q n (at p′ q′ n′)
+  unfolding foundSo
+  other-page e = rw (ne-eqb p p′ e)
 
-pub missing-both : {s : Lookup} → Missing s → isNowhere (asLooked s) ≡ true → (b : calls.Looked) → isNowhere b ≡ alike (asLooked s) b
-unfolding isNowhere alike asLooked
-missing-both unwritten e b = refl
-missing-both unnamed e b = absurd (true≢false (sym e))
+  module _ (e : p ≡ p′) where
+    pub other-predicted : (q ≡ q′ → ⊥) → false ≡ foundSo p q n (at p′ q′ n′)
+    unfolding foundSo
+    other-predicted f = rw (eq-eqb p p′ e, ne-eqb q q′ f)
 
-pub missing-gives : {s : Lookup} → Missing s → (p : ℕ) → false ≡ gives p (asLooked s)
-unfolding gives asLooked
-missing-gives unwritten p = refl
-missing-gives unnamed p = refl
-
--- a number that fails the test
-pub each-not : (n x : ℕ) (t : ℕ → Bool) → x < n → t x ≡ false → eachBelow n t ≡ false
-unfolding eachBelow
-each-not zero x t h e = absurd (omega arith)
-each-not (suc n) x t h e = go (le-cases x n (omega arith)) (λ l. each-not n x t l e)
-  where
-    go : (n ≡ x) ⊎ (suc x ≤ n) → (x < n → eachBelow n t ≡ false) → (t n && eachBelow n t) ≡ false
-    go (inl q) ih = rw (q, e)
-    go (inr l) ih = rw (ih (omega arith)) (is-false (t n && false) (λ z. true≢false (sym (and-r (t n) false z))))
-
--- one more that passes it changes nothing
-pub each-more : (x : ℕ) (t : ℕ → Bool) (u : Bool) → eachBelow x t ≡ u → t x ≡ true → eachBelow (x + 1) t ≡ u
-unfolding eachBelow
-each-more x t u h e = rw (add-one x, e) h
-
--- all of them were tried
-pub each-all : (n x : ℕ) (t : ℕ → Bool) (u : Bool) → x ≡ n → eachBelow x t ≡ u → eachBelow n t ≡ u
-each-all n x t u e h = rw e at h
+    pub levels-decide : q ≡ q′ → eqb n n′ ≡ foundSo p q n (at p′ q′ n′)
+    unfolding foundSo
+    levels-decide f = rw (eq-eqb p p′ e, eq-eqb q q′ f)

@@ -1,4 +1,10 @@
 pub mod Looking
 pub mod Comparing
+pub mod Agreements
+pub mod Each
+pub mod Picking
+pub mod Sameness
+pub mod Told
+pub mod Grouped
 pub mod Agreeing
 pub mod Listing

@@ -1,15 +1,14 @@
 // Agreement of two states, each with its spare area.
-use crate::alike::compare;
-use crate::alike::is_named;
+use crate::compare::compare;
 use answers::Agreed;
 use answers::Opened;
 use answers::Refusal;
 use front::Numbers;
 use state::groups::sound;
 use state::opening::open_with_spare;
-use state::seek::seek;
 ghost use mathlib.Core.Path.{_≡_};
 ghost use mathlib.Core.List.{List};
+ghost use mathlib.Core.Bool.{not};
 ghost use Prim.Native.Nat.{ℕ};
 ghost use Rattle.calls.specs.Agreement.{soundChecks, allNamed};
 ghost use Rattle.calls.specs.History.{agreeCall};
@@ -35,24 +34,18 @@ fn check(state: &[u8], spare: &[u32]) -> Opened
     Opened::Device(d)
 }
 
-// Whether no lookup of a logical page refuses 7.
-fn all_named(state: &[u8], spare: &[u32], d: Numbers) -> bool
+// Whether a lookup of the state refuses 7, by comparing it with itself.
+fn refuses(state: &[u8], spare: &[u32], d: Numbers) -> bool
     requires { ⌜ Passed (numbersOf d) (readState (now state)) (now spare) ⌝ }
-    ensures { λ r. ⌜ r ≡ allNamed (readState (now (state .entry))) (now (spare .entry)) ⌝ }
+    ensures { λ r. ⌜ r ≡ not (allNamed (readState (now (state .entry))) (now (spare .entry))) ⌝ }
 {
-    let n = d.n;
-    let mut x = 0;
-    while x < n {
-        let sought = seek(state, spare, d, x);
-        if !is_named(sought) {
-            return false;
-        }
-        x += 1;
-    }
+    let Agreed::Refused(_) = compare(state, spare, d, state, spare, d) else {
+        return false;
+    };
     true
 }
 
-// Document 01's agreement. It is lent two states with their spare areas, and writes none of them.
+// Document 01's agreement, with what document 02, f also wants. It is lent two states with their spare areas, and writes none of them.
 pub fn agree(state_a: &[u8], spare_a: &[u32], state_b: &[u8], spare_b: &[u32]) -> Agreed
     ensures { λ r. ⌜ ((s spare : List ℕ) → Ran (agreeCall (readState (now («state_a» .entry))) (now («spare_a» .entry)) (readState (now («state_b» .entry))) (now («spare_b» .entry)))
         s spare (agreeAnswer r) (deviceSlices s spare)) ⌝ }
@@ -70,10 +63,10 @@ pub fn agree(state_a: &[u8], spare_a: &[u32], state_b: &[u8], spare_b: &[u32]) -
     if a.n == b.n {
         return compare(state_a, spare_a, a, state_b, spare_b, b);
     }
-    if !all_named(state_a, spare_a, a) {
+    if refuses(state_a, spare_a, a) {
         return Agreed::Refused(Refusal::NotNamed);
     }
-    if !all_named(state_b, spare_b, b) {
+    if refuses(state_b, spare_b, b) {
         return Agreed::Refused(Refusal::NotNamed);
     }
     Agreed::No

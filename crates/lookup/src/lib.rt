@@ -1,5 +1,8 @@
 // The calls that only read: lookup, agreement, a group's listing.
 pub mod agree;
 mod alike;
+mod astray;
+mod compare;
 pub mod list;
 pub mod lookup;
+mod pages;

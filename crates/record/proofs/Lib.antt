@@ -7,3 +7,5 @@ pub mod Scans
 pub mod Ends
 pub mod Masks
 pub mod Coding
+pub mod Strided
+pub mod Renewing

@@ -1,10 +1,13 @@
 -- Masks of 256 bytes, and what a scan of the members by their stride finds. Assumes nothing.
 use mathlib.Core.Path.{_≡_}
-use mathlib.Core.List.{List}
+use mathlib.Core.List.{List, []}
 use mathlib.Core.Bool.{Bool, true, false, not, _&&_}
-use Prim.Native.Nat.{ℕ, _-_, _%_, _≤_, _<_}
+use Prim.Native.Nat.{ℕ, _+_, _-_, _/_, _%_, _≤_, _<_}
 use lib.Dec.{leb, eqb}
 use lib.ListN.{getD}
+use Rattle.model.specs.Record.{kindOf, rise, member}
+use Rattle.record.specs.declared.Record.{Record}
+use Rattle.record.specs.Read.{asRecord}
 
 -- the mask has offset o: its byte is not 0
 abbrev pub masked : List ℕ → ℕ → Bool
@@ -38,3 +41,13 @@ pub record FailedAfter (t : ℕ → Bool) (f d e g : ℕ) : Type 0 where
 -- g is the last of f, f + d, .. to e that passes the test
 abbrev pub Last : (ℕ → Bool) → ℕ → ℕ → ℕ → ℕ → Type 0
 Last t f d e g = FailedAfter t f d e g × (t g ≡ true)
+
+-- the members of r are the offsets of its range that lie whole strides d behind its start; its end is one, and the predicted page goes
+-- up by one from member to member
+pub record Strided (r : Record) (d : ℕ) : Type 0 where
+  pub some : 0 < d
+  pub low : d ≤ 255
+  pub byte : r .start + r .span ≤ 255
+  pub whole : r .span % d ≡ 0
+  pub members : (o : ℕ) → o < 256 → member (asRecord r []) o ≡ onStride (r .start) d (r .start + r .span) o
+  pub rises : (o : ℕ) → onStride (r .start) d (r .start + r .span) o ≡ true → rise (kindOf (r .word)) (r .start) + (o - r .start) / d ≡ rise (kindOf (r .word)) o

@@ -8,8 +8,9 @@ ghost use lib.ListN.{length};
 ghost use Rattle.model.specs.Lists.{select, store};
 ghost use Rattle.model.specs.Record.{kind, isApproximate, covers, member, rise, predict};
 ghost use Rattle.model.specs.Levels.{meets, shrunkToAny, shrink};
+ghost use Rattle.model.specs.Sound.{soundRecord};
 ghost use Rattle.record.specs.Read.{asRecord, bare, OwnedAs, pageOf, existing, leftOf};
-ghost use Rattle.record.specs.Scan.{masked, stays, onStride, First, Last};
+ghost use Rattle.record.specs.Scan.{masked, stays, onStride, First, Last, Strided};
 ghost use Rattle.record.specs.Coding.{recordWidth, recordAt, eight, InEight};
 
 // A record's bytes (docs/LAYOUT.md, 'A slot').
@@ -71,8 +72,20 @@ impl Record {
         x % (w / 2) == 0
     }
 
+    // How far the members of a sound record that isn't approximate lie apart.
+    pub fn stride(self) -> u32
+        requires { ⌜ (isApproximate (kind (asRecord self [])) ≡ false) × (soundRecord 256 0 (asRecord self []) ≡ true) ⌝ }
+        ensures { λ d. ⌜ Strided self d ⌝ }
+    {
+        let w = self.word;
+        if w == 0 {
+            return 1;
+        }
+        w / 2
+    }
+
     // What is added to the intercept at offset o.
-    fn rise(self, o: u32) -> u32
+    pub fn rise(self, o: u32) -> u32
         requires { ⌜ (self .word ≤ 513) × (o < 256) ⌝ }
         ensures { λ r. ⌜ ((L : List ℕ) → r ≡ rise (kind (asRecord self L)) o) ⌝ }
     {

@@ -6,5 +6,6 @@ pub mod Shifts
 pub mod OwnerPasses
 pub mod OwnerWrites
 pub mod Owning
+pub mod OwnMembers
 pub mod SlotPass
 pub mod Leaving

@@ -3,9 +3,11 @@ pub mod Regions
 pub mod Shaping
 pub mod Writers
 pub mod Marking
+pub mod MarkingOut
 pub mod Handing
 pub mod Refusing
 pub mod GroupChecks
 pub mod PageChecks
 pub mod Seeking
+pub mod Telling
 pub mod Bounds

@@ -2,13 +2,13 @@
 use mathlib.Core.Path.{_≡_, sym, ap, _∙_}
 use mathlib.Core.List.{List}
 use mathlib.Core.Bool.{true, false}
-use Prim.Native.Nat.{ℕ, suc, _+_, _-_, _≤_, _<_}
+use Prim.Native.Nat.{ℕ, suc, _+_, _/_, _≤_, _<_}
 use native.Mathlib.Numerals.{add-one}
 use lib.ListN.{length, getD, drop, drop-of-length-le}
 use lib.Seq.{drop-cons}
-use Rattle.model.specs.Marks.{isMarked, mark, unmark, unmarkAll}
+use Rattle.model.specs.Marks.{markByte, isMarked, mark, unmark, unmarkAll}
 use Rattle.model.specs.State.{State, withMarks}
-use Rattle.model.proofs.Marks.{mark-again, unmark-again}
+use Rattle.model.proofs.Marks.{zero-unmarked, mark-again, unmark-again}
 use Rattle.calls.specs.Flush.{clearMarks}
 
 -- the same marks are the same state
@@ -22,6 +22,11 @@ marked-stays s x e = marks-stay s _ (mark-again x (s .marks) e)
 
 pub unmarked-stays : (s : State) (x : ℕ) → isMarked (s .marks) x ≡ false → s ≡ withMarks (unmark x (s .marks)) s
 unmarked-stays s x e = marks-stay s _ (unmark-again x (s .marks) e)
+
+-- where byte b of page x's mark is 0, no page with its mark in it is marked
+pub byte-unmarked : (ms : List ℕ) (x b : ℕ) → b ≡ getD ms (x / 8) 0 → b ≡ 0 → (y : ℕ) → y / 8 ≡ x / 8 → isMarked ms y ≡ false
+unfolding markByte
+byte-unmarked ms x b e z y same = zero-unmarked ms y (ap (λ (k : ℕ). getD ms k 0) same ∙ sym e ∙ z)
 
 -- clearing is no work for a page that isn't marked, at place i
 pub unmarked-on : (l ms : List ℕ) (i : ℕ) → i < length l → isMarked ms (getD l i 0) ≡ false → unmarkAll (drop i l) ms ≡ unmarkAll (drop (i + 1) l) ms

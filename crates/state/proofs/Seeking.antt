@@ -74,6 +74,11 @@ module _ (d : Device) (spare : List ℕ) (x n : ℕ) where
     unfolding lookedNamed answerOf
     page-unnamed q e f = ap answerOf (inside-is q none (predicted d spare x n z) e f)
 
+    -- it names the logical page itself
+    pub page-plain : (q : ℕ) → some q ≡ existing (pages d) z → some q ≡ pageNamed d spare q x → at q q n ≡ lookedAt d spare x n z
+    unfolding lookedNamed
+    page-plain q e f = inside-is q (some q) (predicted d spare x n z) e f
+
 -- a sound record's word
 strided : (r : Record) (d : ℕ) → soundAs (accurate d) r ≡ true → d ≤ 255
 unfolding soundAs

@@ -3,3 +3,4 @@ pub mod Reading
 pub mod Outside
 pub mod Ran
 pub mod Shaped
+pub mod Telling

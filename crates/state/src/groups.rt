@@ -9,6 +9,7 @@ ghost use mathlib.Core.Path.{_≡_};
 ghost use mathlib.Core.Bool.{true};
 ghost use mathlib.Core.Option.{Option·map};
 ghost use Prim.Native.Nat.{_<_};
+ghost use lib.ListN.{length};
 ghost use Rattle.model.specs.Device.{groupCount};
 ghost use Rattle.model.specs.Levels.{listing, holder, levelsTo};
 ghost use Rattle.model.specs.State.{groupAt};
@@ -16,6 +17,7 @@ ghost use Rattle.model.specs.Sound.{soundGroup, soundGroups, soundState};
 ghost use Rattle.front.specs.Read.{numbersOf};
 ghost use Rattle.record.specs.Read.{bare};
 ghost use Rattle.group.specs.Answers.{foundOf, lookedOf};
+ghost use Rattle.forecast.specs.Forecast.{Forecasts};
 ghost use Rattle.state.specs.Reading.{readState};
 ghost use Rattle.state.specs.Shaped.{Shaped};
 
@@ -39,6 +41,17 @@ pub(crate) fn find(state: &[u8], d: Numbers, k: u32, o: u32) -> Hit
     let a = group_place(d, k);
     let e = group_end(d, k);
     group::find(&state[a..e], o)
+}
+
+// The forecasts of the offsets of group k, which is sound.
+pub(crate) fn foretell(state: &[u8], d: Numbers, k: u32, forecasts: &mut [u32])
+    requires { ⌜ Shaped (numbersOf d) (readState (now state)) × (k < groupCount (numbersOf d))
+        × (soundGroup (d .n) k (groupAt (readState (now state)) k) ≡ true) × (length (now forecasts) ≡ 256) ⌝ }
+    ensures { λ _. ⌜ Forecasts (groupAt (readState (now (state .entry))) k) (now (forecasts .exit)) ⌝ }
+{
+    let a = group_place(d, k);
+    let e = group_end(d, k);
+    forecast::foretell(&state[a..e], forecasts);
 }
 
 // Whether all groups are sound.

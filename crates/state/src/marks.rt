@@ -3,9 +3,9 @@ use crate::numbers::marks_place;
 use front::Numbers;
 ghost use mathlib.Core.Path.{_≡_};
 ghost use mathlib.Core.Bool.{true, false};
-ghost use Prim.Native.Nat.{_≤_, _<_};
+ghost use Prim.Native.Nat.{ℕ, _+_, _/_, _%_, _≤_, _<_};
 ghost use lib.Dec.{ltb};
-ghost use lib.ListN.{getD, set};
+ghost use lib.ListN.{length, getD, set};
 ghost use Rattle.model.specs.Lists.{all};
 ghost use Rattle.model.specs.Device.{marksCount};
 ghost use Rattle.model.specs.Marks.{isMarked, mark, unmark, unmarkAll};
@@ -14,6 +14,7 @@ ghost use Rattle.calls.specs.Flush.{clearMarks};
 ghost use Rattle.front.specs.Read.{numbersOf};
 ghost use Rattle.state.specs.Reading.{readState};
 ghost use Rattle.state.specs.Shaped.{Shaped};
+ghost use Rattle.state.specs.Telling.{MarkedOut};
 
 // Byte k of the marks.
 fn marks_byte(state: &[u8], d: Numbers, k: u32) -> u32
@@ -72,7 +73,7 @@ fn unmark(state: &mut [u8], d: Numbers, x: u32)
 // 0 where the byte of logical page x's mark has no mark, else 1.
 fn has_marks(state: &[u8], d: Numbers, x: u32) -> usize
     requires { ⌜ Shaped (numbersOf d) (readState (now state)) × (x < d .n) ⌝ }
-    ensures { λ r. ⌜ (r ≤ 1) × (r ≡ 0 → isMarked (readState (now (state .entry)) .marks) x ≡ false) ⌝ }
+    ensures { λ r. ⌜ (r ≤ 1) × (r ≡ 0 → (y : ℕ) → y / 8 ≡ x / 8 → isMarked (readState (now (state .entry)) .marks) y ≡ false) ⌝ }
 {
     if marks_byte(state, d, x / 8) == 0 {
         return 0;
@@ -107,5 +108,47 @@ pub fn unmark_all(state: &mut [u8], d: Numbers, batch: &[u32])
     while i < batch.len() {
         unmark(state, d, batch[i]);
         i += 1;
+    }
+}
+
+// Whether one of the m logical pages from x on may be marked: where not, none is. x is the first page of a byte of the marks. The bytes
+// with marks are counted, so that there is no branch for each.
+fn any_marked(state: &[u8], d: Numbers, x: u32, m: u32) -> bool
+    requires { ⌜ Shaped (numbersOf d) (readState (now state)) × (x % 8 ≡ 0) × (x + m ≤ d .n) ⌝ }
+    ensures { λ r. ⌜ (r ≡ false → (o : ℕ) → o < m → isMarked (readState (now (state .entry)) .marks) (x + o) ≡ false) ⌝ }
+{
+    let mut marked = 0;
+    let mut o = 0;
+    while o < m {
+        marked += has_marks(state, d, x + o);
+        o += 8;
+    }
+    0 < marked
+}
+
+// 0 where logical page x is marked, otherwise f.
+fn unless_marked(state: &[u8], d: Numbers, x: u32, f: u32) -> u32
+    requires { ⌜ Shaped (numbersOf d) (readState (now state)) × (x < d .n) ⌝ }
+    ensures { λ r. ⌜ (isMarked (readState (now (state .entry)) .marks) x ≡ true → r ≡ 0)
+        × (isMarked (readState (now (state .entry)) .marks) x ≡ false → r ≡ f) ⌝ }
+{
+    if is_marked(state, d, x) {
+        return 0;
+    }
+    f
+}
+
+// The forecasts of the marked ones among the m logical pages from x on become 0: of a discarded page no record is looked at.
+pub(crate) fn mark_out(state: &[u8], d: Numbers, x: u32, m: u32, forecasts: &mut [u32])
+    requires { ⌜ Shaped (numbersOf d) (readState (now state)) × (x % 8 ≡ 0) × (x + m ≤ d .n) × (m ≤ length (now forecasts)) ⌝ }
+    ensures { λ _. ⌜ MarkedOut (readState (now (state .entry)) .marks) x m (now (forecasts .entry)) (now (forecasts .exit)) ⌝ }
+{
+    if !any_marked(state, d, x, m) {
+        return;
+    }
+    let mut o = 0;
+    while o < m {
+        forecasts[o as usize] = unless_marked(state, d, x + o, forecasts[o as usize]);
+        o += 1;
     }
 }

@@ -100,6 +100,14 @@ impl Numbers {
         self.logical_pages.div_ceil(GROUP_PAGES) as usize
     }
 
+    /// The number of offsets of a group.
+    #[inline]
+    pub fn offsets(&self, group: usize) -> usize {
+        let before = GROUP_PAGES * group as u32;
+        let offsets = self.logical_pages.saturating_sub(before);
+        offsets.min(GROUP_PAGES) as usize
+    }
+
     /// The spare entries of a page.
     #[inline]
     pub fn width(&self) -> usize {

@@ -249,13 +249,28 @@ pub fn collection() {
     }
 }
 
-/// Times agreement of two devices that do agree.
+/// Times agreement of two devices that agree, and of two that don't: the groups of one
+/// are compacted. Then too all logical pages have to be looked up.
 pub fn agreement() {
     for (name, device) in devices() {
         let before = Buffers::used(&device, device.blocks / 2);
-        let other = before.clone();
-        time("agreement", &name, before, |calls, buffers| {
-            assert_eq!(buffers.agree(calls, &other), Ok(true));
-        });
+        time_agreement(&name, &before, &before, true);
     }
+    let before = Buffers::used(&full_device(129, 256, 15), 64);
+    time_agreement("129 x 256, g 15", &before, &before, true);
+    let device = full_device(129, 256, 1);
+    let before = Buffers::used(&device, 64);
+    let mut compacted = before.clone();
+    for group in 0..device.groups() as u32 {
+        assert!(compacted.compact(&Baseline, group).is_ok());
+    }
+    time_agreement("129 x 256, compacted", &before, &compacted, false);
+}
+
+/// Times agreement of two devices, of which the answer is known.
+fn time_agreement(input: &str, one: &Buffers, other: &Buffers, agree: bool) {
+    let other = other.clone();
+    time("agreement", input, one.clone(), |calls, buffers| {
+        assert_eq!(buffers.agree(calls, &other), Ok(agree));
+    });
 }

@@ -72,7 +72,7 @@ pub fn check_arbitrary_states(calls: &impl Calls, base: u64) {
                     let _ = beside.list(group, out.len());
                     let _ = beside.compact(group);
                 }
-                _ => beside.agree((&other, &other_area)),
+                _ => drop(beside.agree((&other, &other_area))),
             }
             beside.list_all();
         }
@@ -246,8 +246,8 @@ fn one_of_each<C: Calls>(
     beside.lend(bytes.clone(), area.clone());
     let _ = beside.lookup(last);
     let _ = beside.list(0, listing);
-    beside.agree((&bytes, &area));
-    beside.agree((other_bytes, other_area));
+    let _ = beside.agree((&bytes, &area));
+    let _ = beside.agree((other_bytes, other_area));
     let _ = beside.compact(0);
     let _ = beside.discard(last);
     let _ = beside.flush(&[last, 0], &mut plan);

@@ -133,19 +133,20 @@ impl<'a, C: Calls> Beside<'a, C> {
     }
 
     /// Agreement with another state and its spare area, both ways.
-    pub fn agree(&mut self, (bytes, area): (&[u8], &[u32])) {
+    pub fn agree(&mut self, (bytes, area): (&[u8], &[u32])) -> [Result<bool, Refusal>; 2] {
         self.log.note("agree");
         let lent = &read_state(bytes);
-        let _ = self.read(
+        let one_way = self.read(
             "agree",
             |own| ops::agreement((&own.lent, &own.area), (lent, area)),
             |calls, own, own_area| calls.agree((own, own_area), (bytes, area)),
         );
-        let _ = self.read(
+        let other_way = self.read(
             "agree",
             |own| ops::agreement((lent, area), (&own.lent, &own.area)),
             |calls, own, own_area| calls.agree((bytes, area), (own, own_area)),
         );
+        [one_way, other_way]
     }
 
     /// Lists a group into a buffer of this length; what stands behind the records

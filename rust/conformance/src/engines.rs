@@ -51,16 +51,26 @@ struct Engines<'a, C> {
     earlier: Lent,
     log: &'a mut CallLog,
     answers: &'a mut Answers,
+    met: &'a mut Met,
+}
+
+/// What occurred.
+#[derive(Debug, Default)]
+struct Met {
     /// How many collections had nothing to move.
-    emptied: &'a mut usize,
+    emptied: usize,
+    /// How many states agreed with an earlier one.
+    agreed: usize,
+    /// How many didn't, and had the same pages.
+    finer: usize,
 }
 
 /// Random lists of calls on both engines, with compactions, agreements and listings on
 /// the learned one between: at least 60 calls a round. At the end of a list every
 /// logical page is looked up in both.
 pub fn check_engines(calls: &(impl Calls + PlainCalls), base: u64) {
-    let mut counts = (Answers::default(), 0);
-    rounds(base, &mut counts, |random, log, (answers, emptied)| {
+    let mut counts = (Answers::default(), Met::default());
+    rounds(base, &mut counts, |random, log, (answers, met)| {
         let device = any_device(random);
         let lent = Lent::fitting(random, &device);
         let engines = &mut Engines {
@@ -70,7 +80,7 @@ pub fn check_engines(calls: &(impl Calls + PlainCalls), base: u64) {
             lent,
             log,
             answers,
-            emptied,
+            met,
         };
         engines.format(device, random);
         for _ in 0..40 {
@@ -78,8 +88,9 @@ pub fn check_engines(calls: &(impl Calls + PlainCalls), base: u64) {
         }
         engines.compare();
     });
-    let (answers, emptied) = counts;
-    assert!(emptied > 0, "no collection had nothing to move");
+    let (answers, met) = counts;
+    let all = met.emptied > 0 && met.agreed > 0 && met.finer > 0;
+    assert!(all, "{met:?}");
     // From a format, 3 and 7 never occur, nor does 6 in a collection.
     assert_eq!(answers.met("format"), [0, 1]);
     assert_eq!(answers.met("flush"), [0, 2, 4, 5, 6]);
@@ -240,15 +251,23 @@ impl<C: Calls + PlainCalls> Engines<'_, C> {
         self.answers.count("compact", &answer);
     }
 
-    /// An agreement with an earlier state, which the plain engine hasn't; its entries
-    /// tell the answer.
+    /// An agreement with an earlier state, which the plain engine hasn't; lookups tell
+    /// the answer. Where it is yes, the plain engine's entries are the same too.
     fn agree(&mut self, random: &mut Random) {
         self.log.note("agree");
-        let [now, then] = [&self.lent, &self.earlier];
-        let [one, other] = [now, then].map(|lent| (&lent.learned[..], &lent.area[..]));
+        let states = [&self.lent, &self.earlier];
+        let [one, other] = states.map(|lent| (&lent.learned[..], &lent.area[..]));
         let answer = self.calls.agree(one, other);
-        let [now, then] = [now, then].map(|lent| decode_plain_state(&lent.plain).entries);
-        assert_eq!(answer, Ok(now == then));
+        let agreed = (0..self.device.logical_pages).all(|page| {
+            let [one, other] =
+                [one, other].map(|(state, area)| Calls::lookup(self.calls, state, area, page));
+            one == other
+        });
+        assert_eq!(answer, Ok(agreed));
+        let [now, then] = states.map(|lent| decode_plain_state(&lent.plain).entries);
+        assert!(now == then || !agreed, "the plain engine's entries differ");
+        self.met.agreed += usize::from(agreed);
+        self.met.finer += usize::from(now == then && !agreed);
         self.answers.count("agree", &answer);
         if random.once_in(2) {
             self.earlier = self.lent.clone();
@@ -297,7 +316,7 @@ impl<C: Calls + PlainCalls> Writer for Engines<'_, C> {
             |calls, state| PlainCalls::collect(calls, state, other_plan, other_erased),
         );
         assert_eq!(others, [plan, erased]);
-        *self.emptied += usize::from(answer.is_ok_and(|collected| collected.count == 0));
+        self.met.emptied += usize::from(answer.is_ok_and(|collected| collected.count == 0));
         answer
     }
 }

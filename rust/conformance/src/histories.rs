@@ -138,7 +138,7 @@ fn history<C: Calls>(beside: &mut Beside<C>, device: &Device, random: &mut Rando
                 emptied += usize::from(collected.is_ok_and(|collected| collected.count == 0));
             }
             7 => drop(beside.compact(random.below(device.groups() as u32 + 1))),
-            8 => beside.agree((&earlier.0, &earlier.1)),
+            8 => drop(beside.agree((&earlier.0, &earlier.1))),
             9 => earlier = beside.lent(),
             10 if random.once_in(8) => assert_eq!(beside.format(device.numbers()), Ok(())),
             11 | 12 => discard_some(beside, device, random),

@@ -14,6 +14,7 @@
 //! - [`arguments`]: calls on arbitrary states, with arguments and lengths of all
 //!   kinds
 //! - [`marks`]: discards on marks that hold anything
+//! - [`agreement`]: agreement of states that differ in one thing
 //! - [`plain`]: the same for the plain engine's calls
 //! - [`engines`]: both engines side by side
 //! - [`scripts`]: random scripts for the listing program
@@ -23,6 +24,7 @@
 #![forbid(unsafe_code)]
 #![warn(missing_docs)]
 
+pub mod agreement;
 pub mod answers;
 pub mod arguments;
 pub mod batches;

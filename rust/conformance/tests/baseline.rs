@@ -1,7 +1,9 @@
 //! The baseline against the model.
 
 use hedjosur_conformance::subjects::Baseline;
-use hedjosur_conformance::{arguments, batches, engines, groups, histories, marks, passes};
+use hedjosur_conformance::{
+    agreement, arguments, batches, engines, groups, histories, marks, passes,
+};
 
 #[test]
 fn sorting() {
@@ -61,6 +63,16 @@ fn arbitrary_states() {
 #[test]
 fn marks_that_hold_anything() {
     marks::check_marks(&Baseline);
+}
+
+#[test]
+fn agreement_after_calls() {
+    agreement::check_examples(&Baseline);
+}
+
+#[test]
+fn agreement_of_pairs() {
+    agreement::check_agreement(&Baseline, 1000);
 }
 
 #[test]

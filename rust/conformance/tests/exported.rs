@@ -2,7 +2,7 @@
 //! wrapper. Each check tells how many calls it made without a difference.
 
 use hedjosur_conformance::subjects::Exported;
-use hedjosur_conformance::{arguments, engines, histories, marks};
+use hedjosur_conformance::{agreement, arguments, engines, histories, marks};
 
 #[test]
 fn cases() {
@@ -27,6 +27,16 @@ fn devices_of_one_length() {
 #[test]
 fn marks_that_hold_anything() {
     marks::check_marks(&Exported);
+}
+
+#[test]
+fn agreement_after_calls() {
+    agreement::check_examples(&Exported);
+}
+
+#[test]
+fn agreement_of_pairs() {
+    agreement::check_agreement(&Exported, 2000);
 }
 
 #[test]

@@ -123,9 +123,9 @@ extern "C" {
 #endif
 
 /* The version of this header, of the Rust crate and of the archive's interface. */
-#define HEDJOSUR_VERSION "0.3.0"
+#define HEDJOSUR_VERSION "0.4.0"
 #define HEDJOSUR_VERSION_MAJOR 0
-#define HEDJOSUR_VERSION_MINOR 3
+#define HEDJOSUR_VERSION_MINOR 4
 #define HEDJOSUR_VERSION_PATCH 0
 
 /* The version that the caller was compiled with. */
@@ -215,7 +215,7 @@ static inline const char *hedjosur_refusal_text(enum hedjosur_refusal refusal)
 #define HEDJOSUR_STACK_DISCARD 1024
 #define HEDJOSUR_STACK_COLLECT 20480
 #define HEDJOSUR_STACK_COMPACT 2048
-#define HEDJOSUR_STACK_AGREE 2048
+#define HEDJOSUR_STACK_AGREE 6144
 #define HEDJOSUR_STACK_LIST 1024
 #define HEDJOSUR_STACK_PLAIN_FORMAT 256
 #define HEDJOSUR_STACK_PLAIN_LOOKUP 256
@@ -299,8 +299,15 @@ uint64_t hedjosur_collect(uint8_t *state, size_t state_len,
 uint64_t hedjosur_compact(uint8_t *state, size_t state_len, uint32_t group);
 
 /*
- * Whether every lookup gives the same in two devices: hedjosur_yes. Refuses 1, 2, 3
- * for the first, then the second, then 7.
+ * Whether two devices have as many logical pages and every lookup gives the same in
+ * both, hedjosur_yes: page, predicted page and count of levels; of a page that is not
+ * written the count of levels. So two that find the same pages need not agree: one
+ * that was compacted may look at fewer levels; one may predict another page and read
+ * twice; a page that was never written has all levels of its group, a discarded one 0.
+ * (Before version 0.4.0 a yes was about the pages alone.) A copy of state and spare
+ * area, made together, agrees with the device it was made from. A yes is about now: the
+ * same call on both may part them. m, b and g are not compared, nor what the pages
+ * hold. Refuses 1, 2, 3 for the first, then the second, then 7.
  */
 uint64_t hedjosur_agree(const uint8_t *state_a, size_t state_a_len,
                         const uint32_t *spare_a, size_t spare_a_len,

@@ -153,8 +153,17 @@ impl<S: AsRef<[u8]>, P: AsRef<[u32]>> Device<S, P> {
         accepted(boundary::lookup(state, spare, logical_page)).map(Lookup::unpacked)
     }
 
-    /// Whether two devices have as many logical pages and every lookup finds the
-    /// same page, or 'not written', in both.
+    /// Whether two devices have as many logical pages and every lookup gives the
+    /// same in both: the page, the predicted page and the count of levels; of a
+    /// page that is not written the count of levels.
+    ///
+    /// So two devices that find the same pages need not agree: one that was
+    /// compacted may look at fewer levels; one may predict another page and read
+    /// twice; a page that was never written has all levels of its group, a discarded
+    /// one 0. (Before version 0.4.0 a yes was about the pages alone.) A copy of
+    /// state and spare area, made together, agrees with the device it was made from.
+    /// A yes is about now: the same call on both may part them. The other device
+    /// numbers are not compared, nor what the pages hold.
     ///
     /// Refuses [`BadNumbers`](Refusal::BadNumbers),
     /// [`BadLength`](Refusal::BadLength) and [`NotSound`](Refusal::NotSound) of
@@ -166,10 +175,11 @@ impl<S: AsRef<[u8]>, P: AsRef<[u32]>> Device<S, P> {
     /// # let numbers = Numbers { blocks: 3, block_pages: 4, logical_pages: 4, error_bound: 0 };
     /// # let mut device = Device { state: [0; 5659], spare: [0; 12] };
     /// # device.format(numbers)?;
+    /// device.flush(&[0, 1], &mut [0; 4])?;
     /// let before = device.clone();
-    /// device.compact(0)?;
     /// assert!(device.agree(&before)?);
-    /// device.flush(&[3], &mut [0; 4])?;
+    /// // Page 3 is 'not written' in both, here after 0 levels and there after 1.
+    /// device.discard(3)?;
     /// assert!(!device.agree(&before)?);
     /// # Ok::<(), hedjosur::Refusal>(())
     /// ```

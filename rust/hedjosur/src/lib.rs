@@ -12,7 +12,7 @@
 //! - [`Device::discard`] drops a logical page, until a flush writes it again;
 //! - [`Device::collect`] frees blocks and answers which pages to copy first;
 //! - [`Device::compact`] and [`Device::list`] tidy and show one group's records;
-//! - [`Device::agree`] compares two tables.
+//! - [`Device::agree`] says whether two tables look every page up alike.
 //!
 //! A call that can't be done is refused with a [`Refusal`] and changes nothing.
 //! Whatever bytes are lent, no call panics or reads outside them.

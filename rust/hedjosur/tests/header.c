@@ -101,7 +101,8 @@ static int calls(void)
     CHECK(hedjosur_device_discard(&device, 0) == HEDJOSUR_ACCEPTED);
     CHECK(hedjosur_device_lookup(&device, 0, &place) == HEDJOSUR_ACCEPTED);
     CHECK(!place.found && place.page == 0 && place.predicted == 0 && place.levels == 0);
-    CHECK(hedjosur_device_agree(&device, &other, &yes) == HEDJOSUR_ACCEPTED && yes == 1);
+    CHECK(hedjosur_device_agree(&other, &other, &yes) == HEDJOSUR_ACCEPTED && yes == 1);
+    CHECK(hedjosur_device_agree(&device, &other, &yes) == HEDJOSUR_ACCEPTED && yes == 0);
     return 0;
 }
 

@@ -1,6 +1,6 @@
 //! A model of Hedjosur, the gateway's learned page table.
 //!
-//! The model says what document 01 says, and requests a to d of document 02, in
+//! The model says what document 01 says, and requests a to d and f of document 02, in
 //! vectors and sets instead of bytes, plainly and slowly. Its modules follow
 //! document 01's sections:
 //!

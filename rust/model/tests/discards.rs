@@ -55,10 +55,6 @@ fn collected(world: &mut World) -> (Collected, [Vec<u32>; 2]) {
     (answer, [plan, erased])
 }
 
-fn agree(one: &World, other: &World) -> Result<bool, Refusal> {
-    ops::agreement((&one.lent, &one.area), (&other.lent, &other.area))
-}
-
 #[test]
 fn a_discard_sets_a_mark_and_changes_nothing_else() {
     let world = discarded(&[2]);
@@ -149,9 +145,9 @@ fn a_record_stays_and_leads_astray() {
     let mut unmarked = world.clone();
     unmarked.state_mut().marks[2] = false;
     assert_eq!(unmarked.lookup(2), Err(Refusal::NotNamed));
-    assert_eq!(agree(&unmarked, &world), Err(Refusal::NotNamed));
+    assert_eq!(unmarked.agreement(&world), Err(Refusal::NotNamed));
     assert_eq!(world.lookup(2), Ok(DISCARDED));
-    assert_eq!(agree(&world, &world), Ok(true));
+    assert_eq!(world.agreement(&world), Ok(true));
     // Where lookup refuses 7, discard doesn't.
     assert_eq!(unmarked.discard(2), Ok(()));
     assert_eq!(unmarked, world);
@@ -227,7 +223,7 @@ fn flush_by_any_means(world: &mut World, batch: &[u32]) {
 fn other_calls_keep_the_marks() {
     let calls: [(Option<Refusal>, Call); 9] = [
         (None, |world| world.lookup(2).err()),
-        (None, |world| agree(world, world).err()),
+        (None, |world| world.agreement(world).err()),
         (None, |world| ops::list(&world.lent, 0).err()),
         (None, |world| ops::compaction(&mut world.lent, 0).err()),
         (None, |world| world.collection().err()),
@@ -266,15 +262,20 @@ fn a_format_clears_all_marks() {
     assert_eq!(world.lookup(2), Ok(Lookup::NotWritten { levels: 1 }));
 }
 
+/// Of a page never written all levels are looked at, of a discarded one none; two
+/// states agree again where both have the mark.
 #[test]
-fn discarded_and_never_written_agree() {
+fn discarded_and_never_written_disagree() {
     let mut one = World::formatted(&three_blocks().device());
     one.flush(&[0, 1]).expect("an accepted flush");
     let mut other = one.clone();
     assert_eq!(other.discard(3), Ok(()));
-    assert_eq!(agree(&one, &other), Ok(true));
+    assert_eq!([&one, &other].map(|world| page_of(world, 3)), [None; 2]);
+    assert_eq!(one.agreement(&other), Ok(false));
+    assert_eq!(one.discard(3), Ok(()));
+    assert_eq!(one.agreement(&other), Ok(true));
     assert_eq!(other.discard(1), Ok(()));
-    assert_eq!(agree(&one, &other), Ok(false));
+    assert_eq!(one.agreement(&other), Ok(false));
 }
 
 /// The refusals alone, then two at a time; lookup refuses alike.

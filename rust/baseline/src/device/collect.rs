@@ -8,7 +8,7 @@ use super::lookup::{predict, resolve};
 use super::state::{is_sound, open_with, regions, regions_mut, Regions};
 use super::{marks, spare};
 use crate::blocks::{require, Choice, Tally, BLOCKS, FREE};
-use crate::group::{self, NOT_WRITTEN};
+use crate::group::{self, Lines, Predictions};
 use crate::numbers::{block_of, Numbers};
 use crate::sort::{sort_batch, BATCH};
 
@@ -53,14 +53,16 @@ pub fn collect(
 /// The valid pages of each block, counted by logical page: each has at most one.
 fn tally(device: &Numbers, regions: &Regions, area: &[u32]) -> Tally {
     let mut tally = [0; BLOCKS];
-    let mut pages = [NOT_WRITTEN; 256];
+    let (mut lines, mut predictions) = (Lines::none(), Predictions::none());
     let reciprocal = device.reciprocal();
     for (number, part) in regions.groups.iter().enumerate() {
         if group::records(part) == 0 {
             continue;
         }
-        predict(regions, number, &mut pages);
-        for (&predicted, logical_page) in pages.iter().zip(256 * number as u32..) {
+        predict(regions, number, &mut lines, &mut predictions);
+        for offset in predictions.written().iter() {
+            let predicted = predictions.page(offset);
+            let logical_page = 256 * number as u32 + u32::from(offset);
             if let Some(page) = valid_page(device, area, predicted, logical_page) {
                 tally[block_of(page, reciprocal) % BLOCKS] += 1;
             }

@@ -6,7 +6,7 @@ use hedjosur_model::ops::{Lookup, Refusal};
 use super::state::{open_with, regions, Regions};
 use super::{marks, spare};
 use crate::blocks::require;
-use crate::group::{self, Found, Predictions, NOT_WRITTEN};
+use crate::group::{self, Found, Lines, Predictions};
 use crate::numbers::Numbers;
 
 /// Looks a logical page up.
@@ -48,13 +48,16 @@ pub(super) fn open_for<'a>(
     Ok((device, regions))
 }
 
-/// Fills in the predicted page of each logical page of a group; a discarded one is
+/// Fills in what is predicted for the logical pages of a group; a discarded one is
 /// not written.
-pub(super) fn predict(regions: &Regions, number: usize, pages: &mut Predictions) {
-    group::predict(&regions.groups[number], pages);
-    for offset in marks::discarded(regions.marks, number).iter() {
-        pages[usize::from(offset)] = NOT_WRITTEN;
-    }
+pub(super) fn predict(
+    regions: &Regions,
+    number: usize,
+    lines: &mut Lines,
+    predictions: &mut Predictions,
+) {
+    predictions.fill(&regions.groups[number], lines);
+    predictions.discard(marks::discarded(regions.marks, number));
 }
 
 /// The page that holds a logical page, if the predicted one exists and names it.

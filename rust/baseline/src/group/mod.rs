@@ -13,5 +13,5 @@ pub use compact::compact;
 pub use find::{find, Found};
 pub use insert::{insert, take};
 pub use part::records;
-pub use predictions::{predict, Predictions, NOT_WRITTEN};
+pub use predictions::{Lines, Predictions};
 pub use sound::sound;

@@ -24,18 +24,31 @@ pub(super) fn members(part: &Part, record: Record) -> Offsets {
 #[inline(never)]
 fn owned(part: &Part, record: Record) -> Offsets {
     let name = name(record.start);
+    chosen(part, record.start, record.last(), |owner| owner == name)
+}
+
+/// The offsets that any record owns, of those around `first` to `last`: outside them
+/// none is owned.
+pub(super) fn owned_offsets(part: &Part, first: u8, last: u8) -> Offsets {
+    chosen(part, first, last, |owner| owner != NOBODY)
+}
+
+/// The offsets whose owner is chosen, of those around `first` to `last`.
+#[inline(always)]
+fn chosen(part: &Part, first: u8, last: u8, choose: impl Fn(Owner) -> bool) -> Offsets {
     let (parts, _) = owners(part).as_chunks();
     let mut words = [0; 4];
-    let covered = usize::from(record.start / 64)..=usize::from(record.last() / 64);
+    let covered = usize::from(first / 64)..=usize::from(last / 64);
     for (word, part) in words[covered.clone()].iter_mut().zip(&parts[covered]) {
-        *word = owned_by(part, name);
+        *word = chosen_bits(part, &choose);
     }
     Offsets::from_words(words)
 }
 
-/// Which of 64 offsets have an owner, a bit each.
-fn owned_by(owners: &[Owner; 64], name: Owner) -> u64 {
-    let equal: [u8; 64] = std::array::from_fn(|at| u8::from(owners[at] == name));
+/// Which of 64 offsets have an owner that is chosen, a bit each.
+#[inline(always)]
+fn chosen_bits(owners: &[Owner; 64], choose: impl Fn(Owner) -> bool) -> u64 {
+    let equal: [u8; 64] = std::array::from_fn(|at| u8::from(choose(owners[at])));
     let (parts, _) = equal.as_chunks::<8>();
     parts.iter().rev().fold(0, |bits, &part| {
         // Eight bytes that are 0 or 1 become eight bits.

@@ -1,60 +1,193 @@
-//! The predicted pages of all offsets at once.
+//! What a group says of all offsets at once.
 
 use hedjosur_layout::Part;
 
-use super::part::{name, owners, record, records, slots};
+use super::owners::owned_offsets;
+use super::part::{level, owners, record, records, slots, Slot};
+use crate::offsets::Offsets;
 use crate::record::Record;
 
-/// The page that a sound group predicts for each offset, or [`NOT_WRITTEN`].
-pub type Predictions = [u32; 256];
+/// The bits of a predicted page in a word: pages have less.
+const PAGE_BITS: u32 = 22;
 
-/// What stands for an offset that no record has.
-pub const NOT_WRITTEN: u32 = u32::MAX;
+/// What stands for the page of an offset that no record has.
+const NO_PAGE: u32 = (1 << PAGE_BITS) - 1;
 
-/// What stands for a prediction that would be [`NOT_WRITTEN`]: no page either.
-const OUTSIDE: u32 = u32::MAX - 1;
+/// What stands for a prediction outside every device.
+const OUTSIDE: u32 = NO_PAGE - 1;
 
-/// Fills in the predictions of a sound group, from the bottom up: what a record above
-/// predicts stays.
-pub fn predict(part: &Part, predictions: &mut Predictions) {
-    predictions.fill(NOT_WRITTEN);
-    for slot in slots(part)[..records(part)].iter().rev() {
-        let held = record(slot);
-        match held.is_approximate() {
-            true => predict_owned(part, held, predictions),
-            false => predict_exact(held, predictions),
-        }
+/// The greatest prediction that stays below [`OUTSIDE`] for 256 members.
+const INSIDE: u32 = OUTSIDE - 256;
+
+/// A word for each offset: how many levels are looked at, above the predicted page's
+/// bits. Of two records that have an offset, the upper one's word is the smaller.
+type Words = [u32; 256];
+
+/// What a sound group predicts, and after how many levels.
+pub struct Predictions {
+    words: Words,
+    /// The offsets that have a predicted page.
+    written: Offsets,
+}
+
+/// Room for what approximate records predict by, at each one's start plus 1.
+pub struct Lines([Line; 257]);
+
+impl Lines {
+    /// None yet.
+    pub fn none() -> Lines {
+        Lines([Line::default(); 257])
     }
 }
 
-/// Fills in the predictions of a single or accurate record: they go up by one from
-/// member to member.
+/// What an approximate record predicts by, and how many levels down it is.
+#[derive(Clone, Copy, Default)]
+struct Line {
+    intercept: u32,
+    slope: u16,
+    levels: u16,
+}
+
+impl Predictions {
+    /// None yet.
+    #[inline(always)]
+    pub fn none() -> Predictions {
+        Predictions {
+            words: [0; 256],
+            written: Offsets::NONE,
+        }
+    }
+
+    /// Fills in those of a sound group: the single and accurate records from the bottom
+    /// up, so that what a record above predicts stays, then what the others own.
+    pub fn fill(&mut self, part: &Part, lines: &mut Lines) {
+        let used = &slots(part)[..records(part)];
+        let levels = used.last().map_or(0, |slot| levels_to(slot).into());
+        self.words.fill(word(levels, NO_PAGE));
+        self.written = Offsets::NONE;
+        // The offsets that approximate records cover are among these.
+        let (mut first, mut last) = (u8::MAX, 0);
+        for slot in used.iter().rev() {
+            let held = record(slot);
+            if held.is_approximate() {
+                lines.0[usize::from(held.start) + 1] = Line::new(slot, held);
+                (first, last) = (first.min(held.start), last.max(held.last()));
+            } else {
+                fill_exact(&mut self.words, levels_to(slot).into(), held);
+                self.written = self.written | held.exact_members();
+            }
+        }
+        if first <= last {
+            self.fill_owned(part, owned_offsets(part, first, last), lines);
+        }
+    }
+
+    /// Fills in what approximate records predict for the offsets that they own.
+    fn fill_owned(&mut self, part: &Part, owned: Offsets, lines: &Lines) {
+        let owners = owners(part);
+        for offset in owned.iter() {
+            let owner = u16::from_le_bytes(owners[usize::from(offset)]);
+            let line = lines.0[usize::from(owner).min(256)];
+            let to = &mut self.words[usize::from(offset)];
+            *to = line.word(offset).min(*to);
+        }
+        self.written = self.written | owned;
+    }
+
+    /// Makes offsets not written, with no level looked at.
+    pub fn discard(&mut self, discarded: Offsets) {
+        for offset in discarded.iter() {
+            self.words[usize::from(offset)] = NO_PAGE;
+        }
+        self.written = self.written.without(discarded);
+    }
+
+    /// The offsets that have a predicted page.
+    #[inline]
+    pub fn written(&self) -> Offsets {
+        self.written
+    }
+
+    /// The predicted page of an offset that has one; one outside the device may be
+    /// another one outside.
+    #[inline]
+    pub fn page(&self, offset: u8) -> u32 {
+        self.words[usize::from(offset)] & NO_PAGE
+    }
+
+    /// Whether so many offsets have the same predicted page, or none, after as many
+    /// levels; of pages outside every device no more is asked.
+    #[inline]
+    pub fn same(&self, other: &Predictions, offsets: usize) -> bool {
+        self.words[..offsets] == other.words[..offsets]
+    }
+}
+
+impl Line {
+    #[inline]
+    fn new(slot: &Slot, held: Record) -> Line {
+        Line {
+            intercept: held.intercept as u32,
+            slope: held.word / 2,
+            levels: levels_to(slot),
+        }
+    }
+
+    /// The word of an offset.
+    #[inline]
+    fn word(self, offset: u8) -> u32 {
+        let rise = (u32::from(self.slope) * u32::from(offset) + 255) >> 8;
+        let page = self.intercept.wrapping_add(rise).min(OUTSIDE);
+        word(self.levels.into(), page)
+    }
+}
+
+/// How many levels are looked at down to a slot.
 #[inline]
-fn predict_exact(held: Record, predictions: &mut Predictions) {
-    let covered = &mut predictions[usize::from(held.start)..=usize::from(held.last())];
-    let first = held.predicted(held.start);
-    let numbered = |(number, to): (usize, &mut u32)| {
-        *to = first.wrapping_add(number as u32).min(OUTSIDE);
-    };
+fn levels_to(slot: &Slot) -> u16 {
+    level(slot) + 1
+}
+
+#[inline]
+fn word(levels: u32, page: u32) -> u32 {
+    levels << PAGE_BITS | page
+}
+
+/// Fills in the words of a single or accurate record: the pages go up by one from
+/// member to member.
+#[inline(always)]
+fn fill_exact(words: &mut Words, levels: u32, held: Record) {
+    let covered = &mut words[usize::from(held.start)..=usize::from(held.last())];
+    let page = held.predicted(held.start);
+    if page > INSIDE {
+        return fill_outside(covered, levels, held);
+    }
+    let mut next = word(levels, page);
     match held.word {
-        0 | 2 => covered.iter_mut().enumerate().for_each(numbered),
+        0 => covered[0] = next,
+        2 => covered
+            .iter_mut()
+            .zip(next..)
+            .for_each(|(to, word)| *to = word),
         _ => {
-            let members = covered.iter_mut().step_by(usize::from(held.word / 2));
-            members.enumerate().for_each(numbered);
+            let mut at = 0;
+            while let Some(to) = covered.get_mut(at) {
+                *to = next;
+                next += 1;
+                at += usize::from(held.word / 2);
+            }
         }
     }
 }
 
-/// Fills in the predictions of an approximate record.
-fn predict_owned(part: &Part, held: Record, predictions: &mut Predictions) {
-    let name = name(held.start);
-    let (slope, intercept) = (u32::from(held.word / 2), held.intercept as u32);
-    let covered = usize::from(held.start)..=usize::from(held.last());
-    let owners = &owners(part)[covered.clone()];
-    let covered = predictions[covered].iter_mut().zip(owners);
-    for ((to, &owner), offset) in covered.zip(u32::from(held.start)..) {
-        let rise = (slope * offset + 255) >> 8;
-        let predicted = intercept.wrapping_add(rise).min(OUTSIDE);
-        *to = if owner == name { predicted } else { *to };
+/// As [`fill_exact`], where pages may be outside every device.
+#[cold]
+fn fill_outside(covered: &mut [u32], levels: u32, held: Record) {
+    let page = held.predicted(held.start);
+    let members = covered
+        .iter_mut()
+        .step_by(usize::from(held.word / 2).max(1));
+    for (to, number) in members.zip(0..) {
+        *to = word(levels, page.wrapping_add(number).min(OUTSIDE));
     }
 }

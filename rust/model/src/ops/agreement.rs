@@ -1,14 +1,17 @@
 //! Agreement.
 
-use super::lookup::seek;
+use super::lookup::{seek, Lookup};
 use super::{require, Refusal};
 use crate::device::Device;
 use crate::sound::state_is_sound;
 use crate::state::{Lent, State};
 
 /// Agreement of two states, each with its spare area: 'yes if N is equal and
-/// every lookup gives the same page, or 'not written' in both. It refuses 1, 2,
-/// 3 for the first state, then the second, then 7 if any lookup does.'
+/// every lookup gives the same page, or 'not written' in both'; it 'now also wants
+/// the same predicted page and the same count of levels for each logical page', so
+/// that every lookup has the same answer. What is not written has no predicted page,
+/// but a count of levels. 'It refuses 1, 2, 3 for the first state, then the second,
+/// then 7 if any lookup does.'
 pub fn agreement(one: (&Lent, &[u32]), other: (&Lent, &[u32])) -> Result<bool, Refusal> {
     let (one, other) = (whole(one)?, whole(other)?);
     let lookups = (one.lookups()?, other.lookups()?);
@@ -35,14 +38,11 @@ fn whole<'a>((lent, area): (&'a Lent, &'a [u32])) -> Result<Whole<'a>, Refusal> 
 }
 
 impl Whole<'_> {
-    /// The page of every logical page below N, None for 'not written'; two such
-    /// lists are equal only if N is.
-    fn lookups(&self) -> Result<Vec<Option<u32>>, Refusal> {
+    /// What lookup answers for every logical page below N; two such lists are equal
+    /// only if N is.
+    fn lookups(&self) -> Result<Vec<Lookup>, Refusal> {
         (0..self.device.logical_pages)
-            .map(|logical_page| {
-                let answer = seek(&self.device, self.state, self.area, logical_page)?;
-                Ok(answer.page())
-            })
+            .map(|logical_page| seek(&self.device, self.state, self.area, logical_page))
             .collect()
     }
 }

@@ -82,4 +82,9 @@ impl World {
     pub fn lookup(&self, logical_page: u32) -> Result<Lookup, Refusal> {
         ops::lookup(&self.lent, &self.area, logical_page)
     }
+
+    /// Agreement with another state and its spare area.
+    pub fn agreement(&self, other: &World) -> Result<bool, Refusal> {
+        ops::agreement((&self.lent, &self.area), (&other.lent, &other.area))
+    }
 }

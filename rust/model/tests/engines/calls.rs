@@ -108,16 +108,21 @@ impl Engines<'_> {
         self.hear("compaction", &answer, Heard::Other);
     }
 
-    /// An accepted agreement with an earlier state, which the plain engine hasn't; its
-    /// entries tell the answer.
+    /// An accepted agreement with an earlier state, which the plain engine hasn't. Its
+    /// entries tell whether the pages are the same; predicted pages and levels belong
+    /// to the learned engine only.
     pub fn agreement(&mut self) {
         self.log.note("agreement");
         let (world, lent) = &self.earlier;
-        let one = (&self.learned.lent, &self.learned.area[..]);
-        let answer = ops::agreement(one, (&world.lent, &world.area));
+        let answer = self.learned.agreement(world);
         let [now, then] = [&self.plain, lent].map(|lent| &lent.open().expect("a state").1.entries);
-        assert_eq!(answer, Ok(now == then));
-        self.hear("agreement", &answer, Heard::Other);
+        let call = match (answer, now == then) {
+            (Ok(true), true) => "agreement",
+            (Ok(false), true) => "agreement in pages alone",
+            (Ok(false), false) => "disagreement",
+            wrong => panic!("agreement and the same entries: {wrong:?}"),
+        };
+        self.hear(call, &answer, Heard::Other);
         if self.random.once_in(2) {
             self.earlier = (self.learned.clone(), self.plain.clone());
         }

@@ -12,13 +12,15 @@ use hedjosur_model::testing::{full_device, rounds, small_device};
 
 /// Every answer that a list of calls meets, and no other: 3 and 7 never occur from a
 /// format, nor does 6 in a collection.
-const ANSWERS: [(&str, u32); 18] = [
+const ANSWERS: [(&str, u32); 20] = [
     ("agreement", 0),
+    ("agreement in pages alone", 0),
     ("collection", 0),
     ("collection", 2),
     ("collection", 8),
     ("collection of nothing", 0),
     ("compaction", 0),
+    ("disagreement", 0),
     ("discard", 0),
     ("discard", 4),
     ("flush", 0),

@@ -2,7 +2,7 @@
 
 use hedjosur_model::book::{Event, Heard};
 use hedjosur_model::device::Device;
-use hedjosur_model::ops::{self, Collected, Flushed, Refusal};
+use hedjosur_model::ops::{self, Collected, Flushed, Lookup, Refusal};
 use hedjosur_model::testing::{lists, World};
 
 use crate::history::History;
@@ -123,18 +123,22 @@ impl History<'_> {
     /// Agreement with an earlier world, which may become the present one.
     pub fn agreement(&mut self) {
         self.log.note("agreement");
-        let pages = |world: &World| -> Vec<Option<u32>> {
+        let lookups = |world: &World| -> Vec<Lookup> {
             (0..world.device().logical_pages)
-                .map(|page| world.lookup(page).expect("an accepted lookup").page())
+                .map(|page| world.lookup(page).expect("an accepted lookup"))
                 .collect()
         };
-        let (one, other) = (&self.world, &self.earlier);
-        let answer = ops::agreement((&one.lent, &one.area), (&other.lent, &other.area));
-        let expected = pages(one) == pages(other);
-        assert_eq!(answer, Ok(expected));
-        match expected {
-            true => self.events.agreed += 1,
-            false => self.events.disagreed += 1,
+        let (now, then) = (lookups(&self.world), lookups(&self.earlier));
+        let answer = self.world.agreement(&self.earlier);
+        assert_eq!(answer, Ok(now == then));
+        let same_pages = now
+            .iter()
+            .map(Lookup::page)
+            .eq(then.iter().map(Lookup::page));
+        match (now == then, same_pages) {
+            (true, _) => self.events.agreed += 1,
+            (false, true) => self.events.agreed_in_pages_alone += 1,
+            (false, false) => self.events.disagreed += 1,
         }
         self.book.hear(Heard::Other);
         if self.random.once_in(2) {

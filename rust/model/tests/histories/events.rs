@@ -14,6 +14,7 @@ pub struct Events {
     pub flush_after_collection: usize,
     pub reformat: usize,
     pub agreed: usize,
+    pub agreed_in_pages_alone: usize,
     pub disagreed: usize,
     pub not_written: usize,
     pub one_read: usize,

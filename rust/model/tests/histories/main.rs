@@ -37,6 +37,7 @@ fn small_devices() {
         flush_after_collection,
         reformat,
         agreed,
+        agreed_in_pages_alone,
         disagreed,
         not_written,
         one_read,

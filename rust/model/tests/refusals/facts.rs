@@ -22,6 +22,10 @@ pub struct Facts<'a> {
     pub bound: u64,
 }
 
+/// What lookup answers: the page and the predicted one, None for 'not written', and
+/// how many levels were looked at.
+pub type LookedUp = (Option<[u64; 2]>, usize);
+
 impl<'a> Facts<'a> {
     /// What can be told of this state and spare area.
     pub fn of(world: &'a World) -> Facts<'a> {
@@ -117,22 +121,27 @@ impl<'a> Facts<'a> {
         self.state.expect("a readable state").marks[logical_page as usize]
     }
 
-    /// The page of a logical page, None for 'not written'; an error is 7. Only
-    /// for a readable state whose group is sound.
-    pub fn page_of(&self, logical_page: u64) -> Result<Option<u64>, ()> {
+    /// What lookup of a logical page answers; an error is 7. Only for a readable
+    /// state whose group is sound.
+    pub fn looked_up(&self, logical_page: u64) -> Result<LookedUp, ()> {
         match self.discarded(logical_page) {
-            true => Ok(None),
+            true => Ok((None, 0)),
             false => self.recorded(logical_page),
         }
     }
 
-    /// As [`Facts::page_of`], by the records alone.
-    pub fn recorded(&self, logical_page: u64) -> Result<Option<u64>, ()> {
+    /// As [`Facts::looked_up`], by the records alone.
+    pub fn recorded(&self, logical_page: u64) -> Result<LookedUp, ()> {
         let state = self.state.expect("a readable state");
         let group = &state.groups[(logical_page / 256) as usize];
         let offset = (logical_page % 256) as u8;
-        let Some(record) = group.records().find(|r| members(r).contains(&offset)) else {
-            return Ok(None);
+        let mut levels = 0;
+        let holding = group.levels.iter().find_map(|level| {
+            levels += 1;
+            level.iter().find(|r| members(r).contains(&offset))
+        });
+        let Some(record) = holding else {
+            return Ok((None, levels));
         };
         let predicted = i64::from(record.intercept) + rise(record, offset);
         let last = (self.blocks * self.block_pages) as i64 - 1;
@@ -146,7 +155,8 @@ impl<'a> Facts<'a> {
             let entry = predicted * (2 * bound + 1) + bound + (page - predicted);
             (0..=last).contains(page) && u64::from(self.area[entry as usize]) == logical_page
         });
-        named.map(|page| Some(page as u64)).ok_or(())
+        let page = named.ok_or(())?;
+        Ok((Some([page as u64, predicted as u64]), levels))
     }
 
     /// The valid pages of each used block.
@@ -154,7 +164,10 @@ impl<'a> Facts<'a> {
         let state = self.state.expect("a readable state");
         let valid = |page: u64| {
             let middle = self.area[(page * (2 * self.bound + 1) + self.bound) as usize];
-            u64::from(middle) < self.logical_pages && self.page_of(middle.into()) == Ok(Some(page))
+            u64::from(middle) < self.logical_pages && {
+                let found = self.looked_up(middle.into());
+                matches!(found, Ok((Some([on, _]), _)) if on == page)
+            }
         };
         (0..self.blocks)
             .filter(|&block| state.counts[block as usize] != 0)

@@ -54,33 +54,33 @@ compare-requires c κs = let k = c .before .before .before in (passed-a (back k)
 returns-3 : tie.Need-returns-3
 returns-3 c = let k = c .before .before .before .before in λ s spare. ran-compared _ _ _ _ s spare (first (back k) .0) (second k .0) _ (c .compare .ensures)
 
-all-named-requires : tie.Need-all-named-requires
-all-named-requires c κs = passed-a (back (c .before .before .before))
+refuses-requires : tie.Need-refuses-requires
+refuses-requires c κs = passed-a (back (c .before .before .before))
 
 returns-4 : tie.Need-returns-4
 unfolding agreeAnswer refusalOf
 returns-4 c =
     let k = c .before .before .before .before .before in
-    λ s spare. ran-compared _ _ _ _ s spare (first (back k) .0) (second k .0) _ (first-unnamed _ _ _ _ (sym (c .before .all-named .ensures) ∙ not-true (c .before .all-named .result) (c .if2 .taken)))
+    λ s spare. ran-compared _ _ _ _ s spare (first (back k) .0) (second k .0) _ (first-unnamed _ _ _ _ (not-true _ (sym (c .before .refuses .ensures) ∙ c .if2 .taken)))
 
-all-named-requires-2 : tie.Need-all-named-requires-2
-all-named-requires-2 c κs = passed-b (c .before .before .before .before .before)
+refuses-requires-2 : tie.Need-refuses-requires-2
+refuses-requires-2 c κs = passed-b (c .before .before .before .before .before)
 
 returns-5 : tie.Need-returns-5
 unfolding agreeAnswer refusalOf
 returns-5 c =
     let k = c .before .before .before .before .before .before .before in
-    λ s spare. ran-compared _ _ _ _ s spare (first (back k) .0) (second k .0) _ (second-unnamed _ _ _ _ (sym (c .before .all-named2 .ensures) ∙ not-true (c .before .all-named2 .result) (c .if3 .taken)))
+    λ s spare. ran-compared _ _ _ _ s spare (first (back k) .0) (second k .0) _ (second-unnamed _ _ _ _ (not-true _ (sym (c .before .refuses2 .ensures) ∙ c .if3 .taken)))
 
 returns-6 : tie.Need-returns-6
 unfolding agreeAnswer
 returns-6 c =
     let k = c .before .before .before .before .before .before .before in
-    let named-a = sym (c .before .before .before .all-named .ensures) ∙ not-false (c .before .before .before .all-named .result) (c .before .before .if2 .left) in
-    let named-b = sym (c .before .all-named2 .ensures) ∙ not-false (c .before .all-named2 .result) (c .if3 .left) in
+    let named-a = not-false _ (sym (c .before .before .before .refuses .ensures) ∙ c .before .before .if2 .left) in
+    let named-b = not-false _ (sym (c .before .refuses2 .ensures) ∙ c .if3 .left) in
     λ s spare. ran-compared _ _ _ _ s spare (first (back k) .0) (second k .0) _ (other-numbers _ _ _ _ _ _ (passed-a (back k)) (passed-b k) named-a named-b (λ e. omega (arith, c .before .before .before .before .if1 .left)))
 
 pub agree-spec : {M : Type 1} → statement M
 agree-spec = tie.close (tie.spec (λ c κs. search needs) (λ c. search needs) (λ c. search needs) returns
     (λ c κs. search needs) (λ c. search needs) (λ c. search needs) returns-2 compare-requires returns-3
-    all-named-requires returns-4 all-named-requires-2 returns-5 returns-6)
+    refuses-requires returns-4 refuses-requires-2 returns-5 returns-6)

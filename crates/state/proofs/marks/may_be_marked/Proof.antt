@@ -34,7 +34,7 @@ loop-again c =
     let turn = c .before .before .before .loop in (
       omega arith,
       omega (arith, c .has-marks .ensures .0),
-      λ e. turn .inv .2 (omega arith) ∙ unmarked-on _ _ _ (c .before .before .loop-test .taken) (c .has-marks .ensures .1 (omega arith)),
+      λ e. turn .inv .2 (omega arith) ∙ unmarked-on _ _ _ (c .before .before .loop-test .taken) (c .has-marks .ensures .1 (omega arith) _ refl),
     )
 
 returns : tie.Need-returns Inv-loop μ-loop

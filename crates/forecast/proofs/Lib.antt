@@ -1,0 +1,4 @@
+pub mod Entering
+pub mod Putting
+pub mod Foretelling
+pub mod Nearing
