@@ -1,24 +1,20 @@
 -- A lookup's ways: no record holds the offset; one does, and its page exists and is named, or not. Assumes nothing.
 use mathlib.Core.Path.{_≡_, refl, sym, ap, _∙_}
-use mathlib.Core.List.{List, [], _∷_}
+use mathlib.Core.List.{List}
 use mathlib.Core.Option.{Option, none, some, Option·map}
 use mathlib.Core.Bool.{Bool, true, false}
-use Prim.Native.Nat.{ℕ, _/_, _%_, _≤_, _<_}
+use Prim.Native.Nat.{ℕ, _≤_, _<_}
 use native.Mathlib.Omega.{arith}
-use lib.Dec.{ltb, eqb}
+use lib.Dec.{ltb}
 use lib.IntN.{ℤ, pos, negsuc}
-use borrow.Author.Tests.{ltb-true, leb-true, eqb-true}
-use Rattle.model.specs.Lists.{all, orElse}
+use borrow.Author.Tests.{ltb-true}
 use Rattle.model.specs.Device.{Device, pages, offsetOf, groupOf}
-use Rattle.model.specs.Record.{Record, Kind, accurate, approximate, kindOf, kind, member, predict}
+use Rattle.model.specs.Record.{Record, predict}
 use Rattle.model.specs.Spare.{pageNamed}
 use Rattle.model.specs.Levels.{Group, listing, holder, levelsTo}
 use Rattle.model.specs.Marks.{isMarked}
 use Rattle.model.specs.State.{State, groupAt}
-use Rattle.model.specs.Sound.{soundAs, soundRecord, soundGroup}
-use Rattle.model.proofs.Bools.{and-l, all-head, all-tail}
-use Rattle.model.proofs.SoundRecord.{record-parts}
-use Rattle.model.proofs.SoundGroup.{group-parts}
+use Rattle.model.specs.Sound.{soundGroup}
 use Rattle.calls.specs.Refusals.{notNamed}
 use Rattle.calls.specs.Outcome.{Answer, found, notWritten, refused}
 use Rattle.calls.specs.Lookup.{Looked, at, nowhere, unnamed, lookedNamed, lookedAt, lookedBy, descend, seek, answerOf}
@@ -26,6 +22,7 @@ use Rattle.calls.proofs.Marked.{seek-marked, seek-unmarked}
 use Rattle.calls.proofs.Refusing.{none-some}
 use Rattle.record.specs.Read.{asRecord, bare, existing}
 use Rattle.record.specs.declared.Record as code
+use Rattle.group.proofs.Found.{Found, found-whole}
 use Rattle.answers.specs.declared.Lookup.{Lookup}
 use Rattle.answers.specs.declared.Lookup.the-variants as lookup
 use Rattle.answers.specs.Answers.{lookupAnswer, asLooked}
@@ -79,60 +76,20 @@ module _ (d : Device) (spare : List ℕ) (x n : ℕ) where
     unfolding lookedNamed
     page-plain q e f = inside-is q (some q) (predicted d spare x n z) e f
 
--- a sound record's word
-strided : (r : Record) (d : ℕ) → soundAs (accurate d) r ≡ true → d ≤ 255
-unfolding soundAs
-strided r d h = leb-true d 255 (search and-l)
-
-sloped : (r : Record) (a : ℕ) → soundAs (approximate a) r ≡ true → a ≤ 256
-unfolding soundAs
-sloped r a h = leb-true a 256 (search and-l)
-
-word-bound : (r : Record) → soundAs (kind r) r ≡ true → r .word ≤ 513
-unfolding kindOf
-word-bound r h = go (eqb (r .word) 0) refl (eqb (r .word % 2) 0) refl
-  where
-    fit : (k : Kind) → kindOf (r .word) ≡ k → soundAs k r ≡ true
-    fit k e = rw e at h
-
-    go : (t : Bool) → eqb (r .word) 0 ≡ t → (u : Bool) → eqb (r .word % 2) 0 ≡ u → r .word ≤ 513
-    go true e u f = omega (arith, eqb-true (r .word) 0 e)
-    go false e true f = omega (arith, strided r (r .word / 2) (fit (accurate (r .word / 2)) (rw (e, f, kindOf))))
-    go false e false f = omega (arith, sloped r (r .word / 2) (fit (approximate (r .word / 2)) (rw (e, f, kindOf))))
-
--- the record that holds an offset is one of the sound ones
-holder-sound : (t : Record → Bool) (o : ℕ) (l : List Record) (m : Record) → all t l ≡ true → holder o l ≡ some m → t m ≡ true
-unfolding holder orElse
-holder-sound t o [] m h e = none-some e
-holder-sound t o (r ∷ l) m h e = go (member r o) refl (holder-sound t o l m (all-tail t r l h))
-  where
-    go : (b : Bool) → member r o ≡ b → (holder o l ≡ some m → t m ≡ true) → t m ≡ true
-    go true q ih =
-        let f : some r ≡ some m = rw q at e in
-        let g : r ≡ m = cc in
-        rw (← g) (all-head t r l h)
-    go false q ih = ih (rw q at e)
-
 -- what was found in group g: the record that holds offset o, without the offsets that it owns
 module _ (N k o : ℕ) (g : Group) (h : soundGroup N k g ≡ true) (r : code.Record) (e : some r ≡ Option·map bare (holder o (listing g))) where
-  from : (a : Option Record) → holder o (listing g) ≡ a → some r ≡ Option·map bare a → (m : Record) × (holder o (listing g) ≡ some m) × (bare m ≡ r)
-  from none q f = none-some (sym f)
-  from (some m) q f = (m, q, cc)
-
-  held : (m : Record) × (holder o (listing g) ≡ some m) × (bare m ≡ r)
-  held = from (holder o (listing g)) refl e
+  held : Found N k o g r
+  held = found-whole N k o g r h e
 
   pub held-word : r .word ≤ 513
-  held-word =
-      let s : soundRecord N k (held .0) ≡ true = holder-sound (soundRecord N k) o (listing g) (held .0) (group-parts N k g h .records) (held .1) in
-      rw (← held .2) (word-bound (held .0) (record-parts N k (held .0) s .shape))
+  held-word = held .word
 
   pub held-owned : List ℕ
-  held-owned = held .0 .owned
+  held-owned = held .whole .owned
 
   pub held-is : holder o (listing g) ≡ some (asRecord r held-owned)
   unfolding held-owned
-  held-is = held .1 ∙ ap (λ (b : code.Record). some (asRecord b (held .0 .owned))) (held .2)
+  held-is = held .held ∙ ap (λ (b : code.Record). some (asRecord b (held .whole .owned))) (held .numbers)
 
 -- so the records give what theirs does, or nothing
 module _ (s : State) (d : Device) (spare : List ℕ) (x : ℕ) (numbers : s .device ≡ d) where
