@@ -23,6 +23,8 @@ use Rattle.answers.specs.declared.Agreed.{Agreed}
 use Rattle.answers.specs.declared.Agreed.the-variants as agreed
 use Rattle.answers.specs.declared.Listed.{Listed}
 use Rattle.answers.specs.declared.Listed.the-variants as listed
+use Rattle.answers.specs.declared.Explained.{Explained}
+use Rattle.answers.specs.declared.Explained.the-variants as explained
 
 unfoldable pub refusalOf : Refusal → calls.Refusal
 refusalOf BadNumbers = calls.badNumbers
@@ -79,3 +81,7 @@ agreeAnswer (agreed.Refused r) = outcome.refused (refusalOf r)
 unfoldable pub listAnswer : Listed → outcome.Answer
 listAnswer (listed.Done n) = outcome.listed n
 listAnswer (listed.Refused r) = outcome.refused (refusalOf r)
+
+unfoldable pub whyAnswer : Explained → outcome.Answer
+whyAnswer (explained.Done n) = outcome.explained n
+whyAnswer (explained.Refused r) = outcome.refused (refusalOf r)

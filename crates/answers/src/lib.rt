@@ -77,6 +77,12 @@ pub enum Listed {
     Refused(Refusal),
 }
 
+// The entries that were written.
+pub enum Explained {
+    Done(u32),
+    Refused(Refusal),
+}
+
 // What a call's checks come to: the device numbers, or the refusal.
 pub enum Opened {
     Device(Numbers),

@@ -38,12 +38,14 @@ use Rattle.calls.specs.Collection.{valid, moves, collectChecks, collectD
 use Rattle.calls.specs.Compaction.{compactDone}
 use Rattle.calls.specs.Agreement.{agreeDone}
 use Rattle.calls.specs.Listing.{listChecks, listDone}
-use Rattle.calls.specs.History.{Call, formatCall, flushCall, lookupCall, discardCall, collectCall, compactCall, agreeCall, listCall, lend, lentTo, checksOf, effect, run}
+use Rattle.calls.specs.Why.{whyChecks, whyDone}
+use Rattle.calls.specs.History.{Call, formatCall, flushCall, lookupCall, discardCall, collectCall, compactCall, agreeCall, listCall, whyCall, lend, lentTo, checksOf, effect, run}
 use Rattle.calls.specs.Bounds.{pageLimit, Bounded}
 use Rattle.calls.proofs.Ranking.{ranked-length}
 use Rattle.calls.proofs.Choosing.{pages-fit}
 use Rattle.calls.proofs.Refusing.{none-some, clears}
 use Rattle.calls.proofs.Marked.{seek-marked, seek-unmarked}
+use Rattle.calls.proofs.Explanation.{reasons-most}
 
 -- the page that an entry names is one of the device's
 names-inside : (d : Device) (spare : List ℕ) (p x j : ℕ) → names d spare p x j ≡ true → p + j - d .g < pages d
@@ -127,6 +129,16 @@ list-fits : (k : ℕ) (x : Lent) → firstRefusal (listChecks k x) ≡ none → 
 unfolding listChecks listDone Bounded
 list-fits k x e = group-parts _ k (groupAt (x .state) k) (not-false _ (clears _ e .1 .1 .1 .1 .0)) .limit
 
+-- A telling's entries are at most 512.
+why-fits : (page : ℕ) (x : Lent) → firstRefusal (whyChecks page x) ≡ none → Bounded (whyDone page x .answer)
+unfolding whyChecks whyDone recordCount Bounded
+why-fits page x e =
+    let s : State = x .state in
+    let g : Group = groupAt s (groupOf page) in
+    let sound = not-false _ (clears _ e .1 .1 .1 .1 .0) in
+    let p = group-parts (s .device .N) (groupOf page) g sound in
+    omega (arith, reasons-most s page sound, levels-few g (p .filled), p .limit)
+
 -- no more blocks are taken than there are
 taken-most : (room : ℕ) (l : List Used) → length (blocksOf (takeWhile room l)) ≤ length l
 unfolding takeWhile blocksOf
@@ -195,6 +207,7 @@ effect-fits (collectCall plan erased) s spare n e = collect-fits _ n e
 effect-fits (compactCall k) s spare n e = omega (arith, compact-count (groupAt s k))
 effect-fits (agreeCall a sa b sb) s spare n e = tt
 effect-fits (listCall k out) s spare n e = list-fits k _ e
+effect-fits (whyCall x out) s spare n e = why-fits x _ e
 
 -- Whatever a call answers on a state with a count for each block is bounded.
 pub run-bounded : (c : Call) (s : State) (spare : List ℕ) → length (s .counts) ≡ s .device .M → Bounded (run c s spare .answer)

@@ -31,6 +31,8 @@ pub mod Agreeing
 pub mod Alike
 pub mod PredictedPage
 pub mod OthersStay
+pub mod Reasons
+pub mod Explanation
 pub mod Bounds
 pub mod Demand3
 pub mod Swapping

@@ -17,10 +17,10 @@ use Rattle.model.proofs.Bools.{and-r, is-false}
 use Rattle.calls.specs.Refusals.{Refusal, notSound, notNamed, noFreeBlock, refusalNumber, _when_, firstRefusal}
 use Rattle.calls.specs.Outcome.{Answer, refused, accepted}
 use Rattle.calls.specs.Choice.{noGain}
-use Rattle.calls.specs.History.{Call, formatCall, flushCall, lookupCall, discardCall, collectCall, compactCall, agreeCall, listCall}
-use Rattle.calls.specs.PageMap.{PageMap, mapVictims, mapMoves, mapWrite, mapDiscard, mapErase, mapChecks, MapAnswers, formats, flushes, finds, misses, skips, discards, collects, compacts, agrees, lists, noLists, mapDone, MapPast, mapIdle, mapAfter, MapMakes, refuses, accepts, others}
+use Rattle.calls.specs.History.{Call, formatCall, flushCall, lookupCall, discardCall, collectCall, compactCall, agreeCall, listCall, whyCall}
+use Rattle.calls.specs.PageMap.{PageMap, mapVictims, mapMoves, mapWrite, mapDiscard, mapErase, mapChecks, MapAnswers, formats, flushes, finds, misses, skips, discards, collects, compacts, agrees, lists, explains, noLists, mapDone, MapPast, mapIdle, mapAfter, MapMakes, refuses, accepts, others}
 use Rattle.calls.specs.Demand3 as demands
-use Rattle.calls.specs.Demand3.{pageMaps, Right, unwritten, discardedLast, written, Fits, Between, aLookup, aDiscard, aCompaction, anAgreement, aListing, aRefusal, onDevice, Leads, Waits, FromFormat, Helped, AfterFormat}
+use Rattle.calls.specs.Demand3.{pageMaps, Right, unwritten, discardedLast, written, Fits, Between, aLookup, aDiscard, aCompaction, anAgreement, aListing, aTelling, aRefusal, onDevice, Leads, Waits, FromFormat, Helped, AfterFormat}
 use Rattle.calls.proofs.Refusing.{Stopped, stops, is-clear, stopped, none-some, right-length, refused-not-accepted}
 use Rattle.calls.proofs.Gain.{gain}
 use Rattle.calls.proofs.MapInvariant.{owner-names}
@@ -41,6 +41,7 @@ answers-accepted m c a (collects plan erased) = refl
 answers-accepted m c a (compacts k n) = refl
 answers-accepted m c a (agrees s spare s′ spare′ t) = refl
 answers-accepted m c a (lists k out n) = refl
+answers-accepted m c a (explains x out n) = refl
 
 -- no refusal is such an answer
 no-refusal : (m : PageMap) (c : Call) (a : Answer) (r : Refusal) → MapAnswers m c a → a ≡ refused r → ⊥
@@ -65,6 +66,7 @@ idles m c a (aDiscard x _) t = (refl, refl)
 idles m c a (aCompaction k _) t = (refl, refl)
 idles m c a (anAgreement s spare s′ spare′ _) t = (refl, refl)
 idles m c a (aListing k out _) t = (refl, refl)
+idles m c a (aTelling x out _) t = (refl, refl)
 idles m c a (aRefusal _ _ r) t = absurd (true≢false (sym t ∙ r))
 
 between-same : (h : MapPast) (c : Call) (a : Answer) (h′ : MapPast) → Between c a → MapMakes h c a h′ → Leaves (h .map) (h′ .map)
@@ -158,6 +160,7 @@ module _ (h : MapPast) (v : MapHolds h) where
   unchecked sized (compactCall k) = (λ s. s .1, λ s. s .1)
   unchecked sized (agreeCall s spare s′ spare′) = (λ s. s, λ s. s)
   unchecked sized (listCall k out) = (λ s. s .1 .1, λ s. s .1 .1)
+  unchecked sized (whyCall x out) = (λ s. s .1 .1, λ s. s .1 .1)
 
   never : (c : Call) (a : Answer) (h′ : MapPast) → onDevice c ≡ true → MapMakes h c a h′ → (a ≢ refused notSound) × (a ≢ refused notNamed)
   unfolding onDevice

@@ -18,7 +18,7 @@ use Rattle.calls.specs.Outcome.{Answer, number, accepted, values, format
 use Rattle.calls.specs.Choice.{blocksOf}
 use Rattle.calls.specs.Book.{writeOf, enter}
 use Rattle.calls.specs.History.{Call, formatCall, flushCall, discardCall, collectCall, value, acceptedEntry, entryOf}
-use Rattle.calls.specs.PageMap.{PageMap, mapVictims, mapWrite, mapClear, mapDiscard, blankMap, mapChecks, mapDone, MapPast, mapIdle, mapAfter, MapMakes, refuses, accepts, others, noLists, MapAnswers, formats, flushes, finds, misses, skips, discards, collects, compacts, agrees, lists}
+use Rattle.calls.specs.PageMap.{PageMap, mapVictims, mapWrite, mapClear, mapDiscard, blankMap, mapChecks, mapDone, MapPast, mapIdle, mapAfter, MapMakes, refuses, accepts, others, noLists, MapAnswers, formats, flushes, finds, misses, skips, discards, collects, compacts, agrees, lists, explains}
 use Rattle.calls.specs.Demand3.{Fits}
 use Rattle.calls.proofs.Refusing.{clears, length-is, refused-not-accepted}
 use Rattle.calls.proofs.Moves.{Writable}
@@ -113,6 +113,7 @@ accepted-holds sized c a h v e (collects plan erased) = collect-holds sized plan
 accepted-holds sized c a h v e (compacts k n) = idle-holds h v
 accepted-holds sized c a h v e (agrees s spare s′ spare′ t) = idle-holds h v
 accepted-holds sized c a h v e (lists k out n) = idle-holds h v
+accepted-holds sized c a h v e (explains x out n) = idle-holds h v
 
 -- Every call keeps all.
 pub makes-holds : (h : MapPast) (c : Call) (a : Answer) (h′ : MapPast) → MapHolds h → MapMakes h c a h′ → MapHolds h′

@@ -13,7 +13,8 @@ use Rattle.calls.specs.Collection.{moveAll, listErased, collectDone}
 use Rattle.calls.specs.Compaction.{compactGroup, compactDone}
 use Rattle.calls.specs.Agreement.{agreeDone}
 use Rattle.calls.specs.Listing.{listDone}
-use Rattle.calls.specs.History.{Call, formatCall, flushCall, lookupCall, discardCall, collectCall, compactCall, agreeCall, listCall, lend, lentTo, checksOf, effect, run}
+use Rattle.calls.specs.Why.{whyDone}
+use Rattle.calls.specs.History.{Call, formatCall, flushCall, lookupCall, discardCall, collectCall, compactCall, agreeCall, listCall, whyCall, lend, lentTo, checksOf, effect, run}
 use Rattle.calls.specs.Marked.{marksAfter, MarksFollow}
 use Rattle.calls.proofs.Refusing.{refused-not-accepted}
 use Rattle.calls.proofs.Decided.{Decided, refuses, accepts, decided}
@@ -25,7 +26,7 @@ unfolding collectDone listErased
 collect-marks x = erased-rest _ (moveAll _ x) .marks ∙ moved-rest _ x .marks
 
 effect-marks : (c : Call) (s : State) (spare : List ℕ) → effect c (lentTo c s spare) .after .state .marks ≡ marksAfter c (s .marks)
-unfolding effect lentTo lend marksAfter formatDone blankState flushDone clearMarks writeBlock writeState withGroups withCounts withMarks lookupDone discardDone discardPage compactDone compactGroup agreeDone listDone
+unfolding effect lentTo lend marksAfter formatDone blankState flushDone clearMarks writeBlock writeState withGroups withCounts withMarks lookupDone discardDone discardPage compactDone compactGroup agreeDone listDone whyDone
 effect-marks (formatCall d) s spare = refl
 effect-marks (flushCall batch plan) s spare = refl
 effect-marks (lookupCall x) s spare = refl
@@ -34,6 +35,7 @@ effect-marks (collectCall plan erased) s spare = collect-marks _
 effect-marks (compactCall k) s spare = refl
 effect-marks (agreeCall a sa b sb) s spare = refl
 effect-marks (listCall k out) s spare = refl
+effect-marks (whyCall x out) s spare = refl
 
 pub marks-follow : MarksFollow
 unfolding run

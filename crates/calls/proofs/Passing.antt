@@ -22,8 +22,9 @@ use Rattle.calls.specs.Discard.{discardChecks}
 use Rattle.calls.specs.Collection.{collectChecks}
 use Rattle.calls.specs.Compaction.{compactChecks}
 use Rattle.calls.specs.Listing.{listChecks}
+use Rattle.calls.specs.Why.{whyChecks}
 use Rattle.calls.specs.Outcome.{withOut}
-use Rattle.calls.specs.History.{formatCall, flushCall, lookupCall, discardCall, collectCall, compactCall, listCall, lend}
+use Rattle.calls.specs.History.{formatCall, flushCall, lookupCall, discardCall, collectCall, compactCall, listCall, whyCall, lend}
 use Rattle.calls.specs.PageMap.{PageMap, mapChecks}
 use Rattle.calls.proofs.Refusing.{right-length}
 use Rattle.calls.proofs.Invariant.{Inv}
@@ -90,6 +91,11 @@ module _ (s : State) (spare : List ℕ) (place : ℕ → Option ℕ) (v : Inv s 
   pub list-checks : (k : ℕ) (out : List ℕ) → firstRefusal (listChecks k (withOut out (lend s spare [] []))) ≡ firstRefusal (mapChecks true (listCall k out) m)
   unfolding listChecks mapChecks lend firstRefusal orElse
   list-checks k out = rw (numbers-there, state-right, sound-group k)
+
+  -- .. a telling of why ..
+  pub why-checks : (x : ℕ) (out : List ℕ) → firstRefusal (whyChecks x (withOut out (lend s spare [] []))) ≡ firstRefusal (mapChecks true (whyCall x out) m)
+  unfolding whyChecks mapChecks lend firstRefusal orElse
+  why-checks x out = rw (numbers-there, state-right, sound-group (groupOf x))
 
   -- .. and a collection, whose choice is the map's.
   pub collect-checks : (plan erased : List ℕ) → firstRefusal (collectChecks (lend s spare plan erased)) ≡ firstRefusal (mapChecks true (collectCall plan erased) m)

@@ -26,9 +26,10 @@ use Rattle.calls.specs.Collection.{moveAll, collectDone}
 use Rattle.calls.specs.Compaction.{compactDone, compactGroup}
 use Rattle.calls.specs.Agreement.{agreeDone}
 use Rattle.calls.specs.Listing.{listDone}
+use Rattle.calls.specs.Why.{whyDone}
 use Rattle.calls.specs.Book.{Entry, noEntry, enter}
-use Rattle.calls.specs.History.{Call, formatCall, flushCall, lookupCall, discardCall, collectCall, compactCall, agreeCall, listCall, lend, lentTo, checksOf, effect, run, acceptedEntry, entryOf, Past, pastAfter, step}
-use Rattle.calls.specs.PageMap.{PageMap, mapMoves, mapWrite, mapClear, mapDiscard, mapErase, blankMap, mapChecks, MapAnswers, formats, flushes, finds, misses, skips, discards, collects, compacts, lists, noLists, mapDone, MapPast, mapIdle, mapAfter, MapMakes, others}
+use Rattle.calls.specs.History.{Call, formatCall, flushCall, lookupCall, discardCall, collectCall, compactCall, agreeCall, listCall, whyCall, lend, lentTo, checksOf, effect, run, acceptedEntry, entryOf, Past, pastAfter, step}
+use Rattle.calls.specs.PageMap.{PageMap, mapMoves, mapWrite, mapClear, mapDiscard, mapErase, blankMap, mapChecks, MapAnswers, formats, flushes, finds, misses, skips, discards, collects, compacts, lists, explains, noLists, mapDone, MapPast, mapIdle, mapAfter, MapMakes, others}
 use Rattle.calls.specs.PageMap as maps
 use Rattle.calls.specs.Demand3.{pageMaps, Defined, definitions}
 use Rattle.calls.proofs.Refusing.{clears, refused-not-accepted}
@@ -39,7 +40,7 @@ use Rattle.calls.proofs.Keeping.{format-inv, compact-inv, discard-inv}
 use Rattle.calls.proofs.Writing.{Fresh}
 use Rattle.calls.proofs.Collected.{Rest, rest, moved-rest, written-inv, collectBy, collect-same, collect-rest, collect-inv}
 use Rattle.calls.proofs.Decided.{Decided, refuses, accepts, decided}
-use Rattle.calls.proofs.Passing.{format-checks, flush-checks, lookup-checks, discard-checks, compact-checks, list-checks, collect-checks}
+use Rattle.calls.proofs.Passing.{format-checks, flush-checks, lookup-checks, discard-checks, compact-checks, list-checks, why-checks, collect-checks}
 use Rattle.calls.proofs.Simulation.{Simulates}
 
 -- State, spare area and book show a page map with its book.
@@ -74,6 +75,7 @@ lent-same (collectCall plan erased) s spare = (refl, refl)
 lent-same (compactCall k) s spare = (refl, refl)
 lent-same (agreeCall a sa b sb) s spare = (refl, refl)
 lent-same (listCall k out) s spare = (refl, refl)
+lent-same (whyCall x out) s spare = (refl, refl)
 
 -- an accepted call: the map accepts it with this answer, and what is left shows what the map leaves
 done : (c : Call) (h : Past) (m : PageMap) (out : Outcome) (sized : Bool) → firstRefusal (mapChecks sized c m) ≡ none → MapAnswers m c (out .answer)
@@ -202,6 +204,10 @@ module _ (h : Past) (place : ℕ → Option ℕ) (v : Inv (h .state) (h .spare) 
   unfolding listDone mapDone noLists lend
   list-made k out e = done (listCall k out) h m _ true e (lists k out _) _ (rest _) refl v
 
+  why-made : (x : ℕ) (out : List ℕ) → firstRefusal (mapChecks true (whyCall x out) m) ≡ none → Simulated (whyCall x out) h (beside m h) (whyDone x (withOut out (lend (h .state) (h .spare) [] [])))
+  unfolding whyDone mapDone noLists lend
+  why-made x out e = done (whyCall x out) h m _ true e (explains x out _) _ (rest _) refl v
+
   -- an agreement is of two states that the map doesn't know
   agree-made : (s : State) (spare : List ℕ) (s′ : State) (spare′ : List ℕ) → Simulated (agreeCall s spare s′ spare′) h (beside m h) (run (agreeCall s spare s′ spare′) (h .state) (h .spare))
   unfolding run lentTo checksOf effect agreeDone mapChecks firstRefusal mapDone noLists lend
@@ -225,6 +231,7 @@ module _ (h : Past) (place : ℕ → Option ℕ) (v : Inv (h .state) (h .spare) 
   made (compactCall k) = decide (compactCall k) true (compact-checks (h .state) (h .spare) place v k) (compact-made k)
   made (agreeCall s spare s′ spare′) = agree-made s spare s′ spare′
   made (listCall k out) = decide (listCall k out) true (list-checks (h .state) (h .spare) place v k out) (list-made k out)
+  made (whyCall x out) = decide (whyCall x out) true (why-checks (h .state) (h .spare) place v x out) (why-made x out)
 
 -- An accepted format, wherever it is made.
 started : (h : Past) (d : Device) → accepted (run (formatCall d) (h .state) (h .spare) .answer) ≡ true → Simulated (formatCall d) h (beside (blankMap d) h) (run (formatCall d) (h .state) (h .spare))

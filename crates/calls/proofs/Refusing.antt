@@ -11,7 +11,7 @@ use lib.ListN.{length, drop}
 use borrow.Author.Tests.{eq-eqb, ne-eqb, eqb-true, not-false}
 use Rattle.model.specs.Lists.{orElse}
 use Rattle.calls.specs.Refusals.{Refusal, refusalNumber, Check, firstRefusal, wrongLength}
-use Rattle.calls.specs.Outcome.{Answer, formatted, flushed, found, notWritten, discarded, collected, compacted, agreed, listed, refused, number, accepted}
+use Rattle.calls.specs.Outcome.{Answer, formatted, flushed, found, notWritten, discarded, collected, compacted, agreed, listed, explained, refused, number, accepted}
 
 -- no check applies
 abbrev pub Clear : List Check → Type 0
@@ -141,4 +141,5 @@ numbered-refused (collected p n e) h = absurd (h refl)
 numbered-refused (compacted n) h = absurd (h refl)
 numbered-refused (agreed t) h = absurd (h refl)
 numbered-refused (listed n) h = absurd (h refl)
+numbered-refused (explained n) h = absurd (h refl)
 numbered-refused (refused r) h = refl

@@ -1,7 +1,7 @@
 -- How large the values of an answer get, whatever the call is lent. Assumes nothing.
 use Prim.Native.Nat.{ℕ, _≤_, _<_}
 use Rattle.model.specs.Levels.{groupLimit}
-use Rattle.calls.specs.Outcome.{Answer, formatted, flushed, found, notWritten, discarded, collected, compacted, agreed, listed, refused}
+use Rattle.calls.specs.Outcome.{Answer, formatted, flushed, found, notWritten, discarded, collected, compacted, agreed, listed, explained, refused}
 
 -- the pages of the largest device, 4,096 × 256
 abbrev pub pageLimit : ℕ
@@ -18,4 +18,5 @@ Bounded (collected p n e) = (p < pageLimit) × (n ≤ 256) × (e ≤ 4096)
 Bounded (compacted n) = n ≤ groupLimit
 Bounded (agreed t) = Unit {0}
 Bounded (listed n) = n ≤ groupLimit
+Bounded (explained n) = n ≤ groupLimit
 Bounded (refused r) = Unit {0}

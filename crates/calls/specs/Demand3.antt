@@ -19,7 +19,7 @@ use Rattle.calls.specs.Refusals.{notSound, notNamed, noFreeBlock}
 use Rattle.calls.specs.Outcome.{Answer, found, notWritten, refused, accepted}
 use Rattle.calls.specs.Book as books
 use Rattle.calls.specs.Book.{Arrival, Book, lastWrite}
-use Rattle.calls.specs.History.{Call, formatCall, flushCall, lookupCall, discardCall, collectCall, compactCall, agreeCall, listCall, run, Past, step}
+use Rattle.calls.specs.History.{Call, formatCall, flushCall, lookupCall, discardCall, collectCall, compactCall, agreeCall, listCall, whyCall, run, Past, step}
 use Rattle.calls.specs.PageMap.{MapPast, MapMakes}
 
 -- A machine: its situations, each with the book so far and the number of free blocks; and what it does: a call made in a situation
@@ -66,13 +66,14 @@ pub record Fits (d : Device) (batch plan : List ℕ) : Type 0 where
   pub planned : length plan ≡ d .B
 
 -- "lookups, compactions and refused calls"; "Discard joins .. the calls that may come between a refused flush and its repeat"; and
--- agreements and listings, which write neither state nor spare area
+-- agreements, listings and tellings of why, which write neither state nor spare area
 pub data Between : Call → Answer → Type 0 where
   aLookup : (x : ℕ) (a : Answer) → Between (lookupCall x) a
   aDiscard : (x : ℕ) (a : Answer) → Between (discardCall x) a
   aCompaction : (k : ℕ) (a : Answer) → Between (compactCall k) a
   anAgreement : (s : State) (spare : List ℕ) (s′ : State) (spare′ : List ℕ) (a : Answer) → Between (agreeCall s spare s′ spare′) a
   aListing : (k : ℕ) (out : List ℕ) (a : Answer) → Between (listCall k out) a
+  aTelling : (x : ℕ) (out : List ℕ) (a : Answer) → Between (whyCall x out) a
   aRefusal : (c : Call) (a : Answer) → accepted a ≡ false → Between c a
 
 -- a call on the device: any but an agreement, which is of two other states
@@ -85,6 +86,7 @@ onDevice (collectCall plan erased) = true
 onDevice (compactCall k) = true
 onDevice (agreeCall s spare s′ spare′) = false
 onDevice (listCall k out) = true
+onDevice (whyCall x out) = true
 
 module _ (m : Machine) where
   -- a list of calls, "refused ones included", leads from one situation to another

@@ -16,6 +16,7 @@ use Rattle.calls.specs.Collection.{collectChecks, collectDone}
 use Rattle.calls.specs.Compaction.{compactChecks, compactDone}
 use Rattle.calls.specs.Agreement.{agreeChecks, agreeDone}
 use Rattle.calls.specs.Listing.{listChecks, listDone}
+use Rattle.calls.specs.Why.{whyChecks, whyDone}
 use Rattle.calls.specs.Book.{Book, Entry, formatEntry, flushEntry, discardEntry, collectEntry, noEntry, enter}
 
 -- A call with its arguments and lent lists, state and spare area aside. "Calls that write neither of the two, such as
@@ -29,6 +30,7 @@ pub data Call : Type 0 where
   compactCall : (group : ℕ) → Call
   agreeCall : (first : State) (firstSpare : List ℕ) (second : State) (secondSpare : List ℕ) → Call
   listCall : (group : ℕ) (out : List ℕ) → Call
+  whyCall : (page : ℕ) (out : List ℕ) → Call
 
 -- state and spare area, with the lists that a call brings
 unfoldable pub lend : State → List ℕ → List ℕ → List ℕ → Lent
@@ -43,6 +45,7 @@ lentTo (collectCall plan erased) s spare = lend s spare plan erased
 lentTo (compactCall k) s spare = lend s spare [] []
 lentTo (agreeCall a sa b sb) s spare = lend s spare [] []
 lentTo (listCall k out) s spare = withOut out (lend s spare [] [])
+lentTo (whyCall y out) s spare = withOut out (lend s spare [] [])
 
 -- its refusals in order
 unfoldable pub checksOf : Call → Lent → List Check
@@ -54,6 +57,7 @@ checksOf (collectCall _ _) x = collectChecks x
 checksOf (compactCall k) x = compactChecks k x
 checksOf (agreeCall a sa b sb) x = agreeChecks a sa b sb
 checksOf (listCall k _) x = listChecks k x
+checksOf (whyCall y _) x = whyChecks y x
 
 -- what comes of it where none applies
 unfoldable pub effect : Call → Lent → Outcome
@@ -65,6 +69,7 @@ effect (collectCall _ _) x = collectDone x
 effect (compactCall k) x = compactDone k x
 effect (agreeCall a sa b sb) x = agreeDone a sa b sb x
 effect (listCall k _) x = listDone k x
+effect (whyCall y _) x = whyDone y x
 
 -- a call on a state and a spare area
 unfoldable pub run : Call → State → List ℕ → Outcome
@@ -84,6 +89,7 @@ acceptedEntry (collectCall _ _) a plan erased = collectEntry (value a 0) (value 
 acceptedEntry (compactCall k) a plan erased = noEntry
 acceptedEntry (agreeCall _ _ _ _) a plan erased = noEntry
 acceptedEntry (listCall _ _) a plan erased = noEntry
+acceptedEntry (whyCall _ _) a plan erased = noEntry
 
 unfoldable pub entryOf : Call → Answer → List ℕ → List ℕ → Entry
 entryOf c a plan erased = elim (accepted a) [ true ↦ acceptedEntry c a plan erased | false ↦ noEntry ]

@@ -10,9 +10,11 @@ pub mod Collection
 pub mod Compaction
 pub mod Agreement
 pub mod Listing
+pub mod Why
 pub mod Book
 pub mod History
 pub mod Marked
+pub mod Explanation
 pub mod Alike
 pub mod Bounds
 pub mod PageMap

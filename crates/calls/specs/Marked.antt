@@ -15,7 +15,7 @@ use Rattle.calls.specs.Refusals.{firstRefusal}
 use Rattle.calls.specs.Outcome.{notWritten, accepted}
 use Rattle.calls.specs.Lookup.{lookupChecks}
 use Rattle.calls.specs.Collection.{valid}
-use Rattle.calls.specs.History.{Call, formatCall, flushCall, lookupCall, discardCall, collectCall, compactCall, agreeCall, listCall, lend, run}
+use Rattle.calls.specs.History.{Call, formatCall, flushCall, lookupCall, discardCall, collectCall, compactCall, agreeCall, listCall, whyCall, lend, run}
 
 -- the marks after an accepted call: a format clears all, a flush those of the pages it writes, a discard sets its page's; no other call
 -- changes one
@@ -28,6 +28,7 @@ marksAfter (collectCall plan erased) marks = marks
 marksAfter (compactCall k) marks = marks
 marksAfter (agreeCall s spare s′ spare′) marks = marks
 marksAfter (listCall k out) marks = marks
+marksAfter (whyCall x out) marks = marks
 
 abbrev pub MarksFollow : Type 0
 MarksFollow = (c : Call) (s : State) (spare : List ℕ) → accepted (run c s spare .answer) ≡ true

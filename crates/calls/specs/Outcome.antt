@@ -33,7 +33,8 @@ withOut l x = record { state = x .state; spare = x .spare; plan = x .plan; erase
 
 -- The answers. Format: accepted. Flush: first page and count. Lookup: the page, the predicted page and how many levels were
 -- looked at, or 'not written' with the number of levels. Discard: accepted. Collection: first page, count and number erased.
--- Compaction: the records left. Agreement: yes or no. Listing: the records listed. Any call: refused.
+-- Compaction: the records left. Agreement: yes or no. Listing: the records listed. Telling why: the entries listed. Any call:
+-- refused.
 pub data Answer : Type 0 where
   formatted : Answer
   flushed : (first count : ℕ) → Answer
@@ -44,6 +45,7 @@ pub data Answer : Type 0 where
   compacted : (left : ℕ) → Answer
   agreed : Bool → Answer
   listed : (records : ℕ) → Answer
+  explained : (entries : ℕ) → Answer
   refused : Refusal → Answer
 
 -- document 01's number of each case: 0 accepted, else the refusal's
@@ -57,6 +59,7 @@ number (collected p n e) = 0
 number (compacted n) = 0
 number (agreed t) = 0
 number (listed n) = 0
+number (explained n) = 0
 number (refused r) = refusalNumber r
 
 unfoldable pub accepted : Answer → Bool
@@ -69,6 +72,7 @@ accepted (collected p n e) = true
 accepted (compacted n) = true
 accepted (agreed t) = true
 accepted (listed n) = true
+accepted (explained n) = true
 accepted (refused r) = false
 
 -- and its values, in document 01's order
@@ -83,6 +87,7 @@ values (compacted n) = n ∷ []
 values (agreed true) = 1 ∷ []
 values (agreed false) = 0 ∷ []
 values (listed n) = n ∷ []
+values (explained n) = n ∷ []
 values (refused r) = []
 
 pub record Outcome : Type 0 where

@@ -14,11 +14,12 @@ use Rattle.model.specs.Learning.{Write, sorted, logicals, sources}
 use Rattle.model.specs.State.{State, freeBlocks, lowestIn}
 use Rattle.model.specs.Sound.{isEmpty}
 use Rattle.calls.specs.Refusals.{Refusal, Check, _when_, firstRefusal, badNumbers, badLength, outOfRange, badBatch, noFreeBlock, nothingToGain, wrongLength}
-use Rattle.calls.specs.Outcome.{Answer, formatted, flushed, found, notWritten, discarded, collected, compacted, agreed, listed, refused}
+use Rattle.calls.specs.Outcome.{Answer, formatted, flushed, found, notWritten, discarded, collected, compacted, agreed, listed, explained, refused}
 use Rattle.calls.specs.Choice.{Used, victimsBy, blocksOf, movesBy, firstOf, noGain}
 use Rattle.calls.specs.Listing.{listingLength}
+use Rattle.calls.specs.Why.{whyLength}
 use Rattle.calls.specs.Book.{Book, noEntry, enter}
-use Rattle.calls.specs.History.{Call, formatCall, flushCall, lookupCall, discardCall, collectCall, compactCall, agreeCall, listCall, entryOf}
+use Rattle.calls.specs.History.{Call, formatCall, flushCall, lookupCall, discardCall, collectCall, compactCall, agreeCall, listCall, whyCall, entryOf}
 
 pub record PageMap : Type 0 where
   pub device : Device
@@ -120,9 +121,10 @@ mapChecks sized (collectCall plan erased) m =
 mapChecks sized (compactCall k) m = outOfRange when leb (groupCount (m .device)) k ∷ []
 mapChecks sized (agreeCall _ _ _ _) m = []
 mapChecks sized (listCall k out) m = badLength when wrongLength out listingLength ∷ outOfRange when leb (groupCount (m .device)) k ∷ []
+mapChecks sized (whyCall x out) m = badLength when wrongLength out whyLength ∷ outOfRange when leb (m .device .N) x ∷ []
 
 -- What an accepted call answers: all that needs no records. A lookup's predicted page and number of levels (0 of a discarded page), a
--- compaction's records left, a listing's number of records, and an agreement's yes or no, of two states that the map doesn't know, may
+-- compaction's records left, a listing's number of records, a telling's of entries, and an agreement's yes or no, of two states that the map doesn't know, may
 -- be any.
 pub data MapAnswers (m : PageMap) : Call → Answer → Type 0 where
   formats : (d : Device) → MapAnswers m (formatCall d) formatted
@@ -137,6 +139,7 @@ pub data MapAnswers (m : PageMap) : Call → Answer → Type 0 where
   compacts : (k left : ℕ) → MapAnswers m (compactCall k) (compacted left)
   agrees : (s : State) (spare : List ℕ) (s′ : State) (spare′ : List ℕ) (t : Bool) → MapAnswers m (agreeCall s spare s′ spare′) (agreed t)
   lists : (k : ℕ) (out : List ℕ) (records : ℕ) → MapAnswers m (listCall k out) (listed records)
+  explains : (x : ℕ) (out : List ℕ) (entries : ℕ) → MapAnswers m (whyCall x out) (explained entries)
 
 -- What an accepted call leaves: the map and its lists.
 pub record MapLeft : Type 0 where
@@ -161,6 +164,7 @@ mapDone (collectCall plan erased) m = record {
 mapDone (compactCall k) m = noLists m
 mapDone (agreeCall _ _ _ _) m = noLists m
 mapDone (listCall _ _) m = noLists m
+mapDone (whyCall _ _) m = noLists m
 
 -- The map between two calls, and the book so far.
 pub record MapPast : Type 0 where

@@ -7,7 +7,7 @@ use Rattle.model.specs.Learning.{learn}
 use Rattle.model.specs.State.{freeBlocks}
 use Rattle.model.proofs.Demand2.{demand-2}
 use Rattle.calls.specs.Outcome.{Answer, Outcome}
-use Rattle.calls.specs.History.{Call, formatCall, flushCall, lookupCall, discardCall, collectCall, compactCall, agreeCall, listCall, checksOf, effect, run, Past, pastAfter, step}
+use Rattle.calls.specs.History.{Call, formatCall, flushCall, lookupCall, discardCall, collectCall, compactCall, agreeCall, listCall, whyCall, checksOf, effect, run, Past, pastAfter, step}
 use Rattle.calls.specs.Demand3.{Leads, nothing, then, FromFormat, AfterFormat, definitions, Defined}
 use Rattle.calls.proofs.Simulation.{Simulates, carry}
 use Rattle.calls.proofs.Demand3.{definitions-demand}
@@ -26,6 +26,7 @@ defined-meets (collectCall plan erased) s spare = refl
 defined-meets (compactCall k) s spare = refl
 defined-meets (agreeCall a sa b sb) s spare = refl
 defined-meets (listCall k out) s spare = refl
+defined-meets (whyCall x out) s spare = refl
 
 -- Demand 2: it is crates/model's.
 pub learn-meets : Demand2 learn

@@ -12,7 +12,7 @@ use Rattle.model.specs.Levels.{Group}
 use Rattle.model.specs.State.{withCounts, withGroups}
 use Rattle.calls.specs.Outcome.{Answer, agreed, number}
 use Rattle.calls.specs.Demand3.{agreementOf}
-use Rattle.calls.specs.History.{Call, formatCall, flushCall, lookupCall, discardCall, collectCall, compactCall, listCall, run, Past, step, steps}
+use Rattle.calls.specs.History.{Call, formatCall, flushCall, lookupCall, discardCall, collectCall, compactCall, listCall, whyCall, run, Past, step, steps}
 use Rattle.cases.specs.Small.{small, unformatted, flushOn, collectOn}
 use Rattle.cases.specs.Opens.{everything}
 
@@ -172,6 +172,17 @@ given =
     ∷ refusedBy (listCall 0 (replicate 5120 0)) emptyLevel
     ∷ refusedBy (listCall 0 (replicate 5120 0)) new
     ∷ [])
+    -- telling why; where two apply: 2 and 4, 4 and 3
+    ∷ opened (whyCall 0 (replicate 6144 0))
+    ∷ (refusedBy (whyCall 0 (replicate 6143 0)) new
+    ∷ refusedBy (whyCall 4 (replicate 6144 0)) new
+    ∷ refusedBy (whyCall 0 (replicate 6144 0)) emptyLevel
+    ∷ refusedBy (whyCall 0 (replicate 6144 0)) noSuchPage
+    ∷ refusedBy (whyCall 0 (replicate 6144 0)) notNamedThere
+    ∷ refusedBy (whyCall 0 (replicate 6144 0)) discardedThere
+    ∷ refusedBy (whyCall 4 (replicate 6143 0)) new
+    ∷ refusedBy (whyCall 4 (replicate 6144 0)) emptyLevel
+    ∷ [])
     -- agreement
     ∷ map first (tooShort ∷ outside ∷ longState ∷ longSpare ∷ emptyLevel ∷ noSuchPage ∷ notNamedThere ∷ new ∷ [])
     ∷ map second (tooShort ∷ outside ∷ longState ∷ longSpare ∷ emptyLevel ∷ noSuchPage ∷ notNamedThere ∷ new ∷ [])
@@ -211,6 +222,9 @@ stated =
     ∷ (1 ∷ 1 ∷ 2 ∷ [])
     -- "refuses as compaction"
     ∷ (2 ∷ 4 ∷ 3 ∷ 0 ∷ [])
+    ∷ (1 ∷ 1 ∷ 2 ∷ [])
+    -- "It uses lookup's refusals except 7"
+    ∷ (2 ∷ 4 ∷ 3 ∷ 0 ∷ 0 ∷ 0 ∷ 2 ∷ 4 ∷ [])
     -- "It refuses 1, 2, 3 for the first state, then the second, then 7 if any lookup does"
     ∷ (1 ∷ 1 ∷ 2 ∷ 2 ∷ 3 ∷ 7 ∷ 7 ∷ 0 ∷ [])
     ∷ (1 ∷ 1 ∷ 2 ∷ 2 ∷ 3 ∷ 7 ∷ 7 ∷ 0 ∷ [])

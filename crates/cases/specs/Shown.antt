@@ -1,11 +1,12 @@
 -- How document 01's cases show what the definitions give. Assumes nothing.
 use mathlib.Core.List.{List, [], _∷_, _++_, map}
-use Prim.Native.Nat.{ℕ}
+use Prim.Native.Nat.{ℕ, suc, _*_}
 use lib.IntN.{ℤ}
+use lib.ListN.{take, replicate}
 use Rattle.model.specs.Record.{predict}
 use Rattle.model.specs.Learning.{Run, learn, sorted, sources}
 use Rattle.calls.specs.Outcome.{Answer, Outcome}
-use Rattle.calls.specs.History.{Call, lookupCall, Past, run, step}
+use Rattle.calls.specs.History.{Call, lookupCall, whyCall, Past, run, value, step}
 use Rattle.calls.specs.Demand3.{agreementOf}
 
 -- "Records as S, L, word, I", with the group.
@@ -17,12 +18,13 @@ pub record Row : Type 0 where
   pub I : ℤ
 
 -- What a case shows: records; predicted pages; the plan of a batch; an answer, with the plan and the erased list that the
--- call left.
+-- call left; a telling of why, with what it wrote and the byte behind it.
 pub data Shown : Type 0 where
   records : List Row → Shown
   predictions : List ℤ → Shown
   plan : List ℕ → Shown
   answer : Answer → (plan erased : List ℕ) → Shown
+  telling : Answer → (written : List ℕ) → Shown
 
 abbrev pub row : ℕ → ℕ → ℕ → ℕ → ℤ → Row
 row k S L w I = record { group = k; S = S; L = L; word = w; I = I }
@@ -62,3 +64,11 @@ lookups h (x ∷ xs) = showOutcome (run (lookupCall x) (h .state) (h .spare)) �
 -- lookups of these logical pages on one state, on another, and what the agreement of the two says
 unfoldable pub compared : Past → Past → List ℕ → List Shown
 compared g h xs = lookups g xs ++ lookups h xs ++ (showOutcome (run (agreementOf g h) (g .state) (g .spare)) ∷ [])
+
+unfoldable pub showTelling : Outcome → Shown
+showTelling o = telling (o .answer) (take (suc (12 * value (o .answer) 0)) (o .after .out))
+
+-- tellings of why of these logical pages, on one state
+unfoldable pub tellings : Past → List ℕ → List Shown
+tellings h [] = []
+tellings h (x ∷ xs) = showTelling (run (whyCall x (replicate 6144 99)) (h .state) (h .spare)) ∷ tellings h xs

@@ -1,5 +1,5 @@
--- Document 01, 'Cases': those marked P, with one of a discarded page, two of wrong predictions and three of agreement (document 02, a, b
--- and f), as one table. What the definitions give is what the documents say. Assumes nothing.
+-- Document 01, 'Cases': those marked P, with one of a discarded page, two of wrong predictions, three of agreement and seven of telling why
+-- (document 02, a, b, f and g), as one table. What the definitions give is what the documents say. Assumes nothing.
 use mathlib.Core.Path.{_≡_, refl}
 use mathlib.Core.List.{List, [], _∷_, _++_}
 use mathlib.Core.Bool.{false}
@@ -7,9 +7,9 @@ use Prim.Native.Nat.{ℕ, zero, suc}
 use lib.IntN.{pos, negsuc}
 use Rattle.model.specs.Device.{Device}
 use Rattle.calls.specs.Refusals.{noFreeBlock}
-use Rattle.calls.specs.Outcome.{formatted, flushed, found, notWritten, discarded, collected, agreed, refused}
+use Rattle.calls.specs.Outcome.{formatted, flushed, found, notWritten, discarded, collected, agreed, explained, refused}
 use Rattle.calls.specs.History.{Call, formatCall, lookupCall, discardCall, compactCall, Past, step, steps}
-use Rattle.cases.specs.Shown.{Shown, records, predictions, plan, answer, row, learned, predicted, planned, called, lookups, compared}
+use Rattle.cases.specs.Shown.{Shown, records, predictions, plan, answer, telling, row, learned, predicted, planned, called, lookups, compared, tellings}
 use Rattle.cases.specs.Small.{small, unformatted, flushOn, collectOn}
 use Rattle.cases.specs.Opens.{everything}
 
@@ -70,6 +70,16 @@ eight = record { M = 3; B = 8; N = 8; g = 1 }
 withoutSix : List ℕ → Past
 withoutSix batch = steps (formatCall eight ∷ flushOn eight batch ∷ discardCall 6 ∷ []) (unformatted eight)
 
+-- M 4, B 4, N 4, g 0: flush 1, 3
+strided : Past
+strided = steps (formatCall four ∷ flushOn four (1 ∷ 3 ∷ []) ∷ []) (unformatted four)
+
+-- M 6, B 4, N 9, g 1: flush 0, 1, 4, 5; 3, 4, 8, which takes 4; 2, 6, 7, which covers 4 and 5
+taken : Past
+taken =
+    let d : Device = record { M = 6; B = 4; N = 9; g = 1 } in
+    steps (formatCall d ∷ flushOn d (0 ∷ 1 ∷ 4 ∷ 5 ∷ []) ∷ flushOn d (3 ∷ 4 ∷ 8 ∷ []) ∷ flushOn d (2 ∷ 6 ∷ 7 ∷ []) ∷ []) (unformatted d)
+
 -- what the definitions give
 pub given : List Shown
 given =
@@ -85,7 +95,8 @@ given =
     ∷ learned 1 0 (255 ∷ 256 ∷ [])
     ∷ planned (7 ∷ 7 ∷ [])
     ∷ (called smallCalls (unformatted small) ++ called discardCalls (unformatted small) ++ (lookups early (50 ∷ 78 ∷ 82 ∷ []) ++ lookups late (78 ∷ []))
-    ++ compared grown tidied (pages 4 0) ++ compared pair withoutLast (pages 4 0) ++ compared (withoutSix (0 ∷ 1 ∷ 2 ∷ 6 ∷ [])) (withoutSix (0 ∷ 1 ∷ 2 ∷ [])) (pages 8 0))
+    ++ compared grown tidied (pages 4 0) ++ compared pair withoutLast (pages 4 0) ++ compared (withoutSix (0 ∷ 1 ∷ 2 ∷ 6 ∷ [])) (withoutSix (0 ∷ 1 ∷ 2 ∷ [])) (pages 8 0)
+    ++ (tellings early (78 ∷ 76 ∷ []) ++ tellings pair (3 ∷ []) ++ tellings withoutLast (3 ∷ []) ++ tellings strided (2 ∷ []) ++ tellings taken (4 ∷ 5 ∷ [])))
 
 -- what document 01 says; an answer's numbers in its order, so a lookup's are page, predicted page, levels
 pub stated : List Shown
@@ -175,9 +186,31 @@ stated =
     ∷ answer (notWritten 0) [] []
     ∷ answer (notWritten 1) [] []
     ∷ answer (agreed false) [] []
+    -- why 78: the record of 72, 73, 80 covers it and doesn't own it; the owner, that of 75, 78, 82, has it
+    ∷ telling (explained 2)
+    (72 ∷ 8 ∷ 79 ∷ 0 ∷ 245 ∷ 0 ∷ 0 ∷ 0 ∷ 2 ∷ 1 ∷ 75 ∷ 0
+    ∷ 75 ∷ 7 ∷ 89 ∷ 0 ∷ 179 ∷ 0 ∷ 0 ∷ 0 ∷ 3 ∷ 0 ∷ 0 ∷ 0 ∷ 99 ∷ [])
+    -- why 76: both cover it and nobody owns it
+    ∷ telling (explained 2)
+    (72 ∷ 8 ∷ 79 ∷ 0 ∷ 245 ∷ 0 ∷ 0 ∷ 0 ∷ 2 ∷ 0 ∷ 0 ∷ 0
+    ∷ 75 ∷ 7 ∷ 89 ∷ 0 ∷ 179 ∷ 0 ∷ 0 ∷ 0 ∷ 2 ∷ 0 ∷ 0 ∷ 0 ∷ 99 ∷ [])
+    -- flush 0, 1, why 3: no record covers it; "a discarded page lists nothing"
+    ∷ telling (explained 1) (0 ∷ 0 ∷ 0 ∷ 0 ∷ 0 ∷ 0 ∷ 0 ∷ 0 ∷ 0 ∷ 0 ∷ 0 ∷ 0 ∷ 99 ∷ [])
+    ∷ telling (explained 0) (99 ∷ [])
+    -- flush 1, 3, why 2: 1, 2, 4, −1 covers it, and it is off the stride
+    ∷ telling (explained 1) (1 ∷ 2 ∷ 4 ∷ 0 ∷ 255 ∷ 255 ∷ 255 ∷ 255 ∷ 1 ∷ 0 ∷ 0 ∷ 0 ∷ 99 ∷ [])
+    -- why 4: taken from the first record by that of 3, 4, 8, the owner; the newest record covers it
+    ∷ telling (explained 2)
+    (2 ∷ 5 ∷ 149 ∷ 0 ∷ 7 ∷ 0 ∷ 0 ∷ 0 ∷ 2 ∷ 1 ∷ 3 ∷ 0
+    ∷ 3 ∷ 5 ∷ 131 ∷ 0 ∷ 3 ∷ 0 ∷ 0 ∷ 0 ∷ 3 ∷ 0 ∷ 0 ∷ 0 ∷ 99 ∷ [])
+    -- why 5: not taken; the owner starts at 0, and the 1 before tells it from none
+    ∷ telling (explained 3)
+    (2 ∷ 5 ∷ 149 ∷ 0 ∷ 7 ∷ 0 ∷ 0 ∷ 0 ∷ 2 ∷ 1 ∷ 0 ∷ 0
+    ∷ 3 ∷ 5 ∷ 131 ∷ 0 ∷ 3 ∷ 0 ∷ 0 ∷ 0 ∷ 2 ∷ 1 ∷ 0 ∷ 0
+    ∷ 0 ∷ 5 ∷ 207 ∷ 0 ∷ 0 ∷ 0 ∷ 0 ∷ 0 ∷ 3 ∷ 0 ∷ 0 ∷ 0 ∷ 99 ∷ [])
     ∷ []
 
 -- The table.
 pub table : given ≡ stated
-unfolding everything small unformatted flushOn collectOn pages smallCalls discardCalls scripted flushOf early late four grown tidied pair withoutLast eight withoutSix given stated
+unfolding everything small unformatted flushOn collectOn pages smallCalls discardCalls scripted flushOf early late four grown tidied pair withoutLast eight withoutSix strided taken given stated
 table = refl

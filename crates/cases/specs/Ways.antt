@@ -17,7 +17,7 @@ use Rattle.calls.specs.Flush.{flushChecks, flushDone}
 use Rattle.calls.specs.Lookup.{lookupChecks, lookupDone}
 use Rattle.calls.specs.Discard.{discardChecks, discardDone}
 use Rattle.calls.specs.Collection.{collectChecks, collectDone}
-use Rattle.calls.specs.History.{Call, formatCall, flushCall, lookupCall, discardCall, collectCall, compactCall, agreeCall, listCall, lentTo, run, Past, pastAfter}
+use Rattle.calls.specs.History.{Call, formatCall, flushCall, lookupCall, discardCall, collectCall, compactCall, agreeCall, listCall, whyCall, lentTo, run, Past, pastAfter}
 use Rattle.calls.specs.Demand3.{Machine}
 use Rattle.cases.specs.Small.{small, unformatted}
 
@@ -60,6 +60,7 @@ made w (collectCall plan erased) s spare = w .collect (lentTo (collectCall plan 
 made w (compactCall k) s spare = run (compactCall k) s spare
 made w (agreeCall a sa b sb) s spare = run (agreeCall a sa b sb) s spare
 made w (listCall k out) s spare = run (listCall k out) s spare
+made w (whyCall x out) s spare = run (whyCall x out) s spare
 
 -- Demand 1 of a way, as `Ran` (crates/state) has it of the functions: each call answers and leaves what the definitions say.
 abbrev pub Demand1 : Way → Type 0

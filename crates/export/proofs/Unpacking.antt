@@ -5,7 +5,7 @@ use mathlib.Core.Bool.{true, false}
 use Prim.Native.Nat.{ℕ, _+_, _*_, _/_, _%_, _<_}
 use native.Mathlib.Omega.{arith}
 use Rattle.calls.specs.Refusals.{refusalNumber}
-use Rattle.calls.specs.Outcome.{Answer, formatted, flushed, found, notWritten, discarded, collected, compacted, agreed, listed, refused}
+use Rattle.calls.specs.Outcome.{Answer, formatted, flushed, found, notWritten, discarded, collected, compacted, agreed, listed, explained, refused}
 use Rattle.calls.specs.History.{Call}
 use Rattle.calls.specs.Bounds.{Bounded}
 use Rattle.plain.specs.Calls.{Common}
@@ -39,6 +39,7 @@ Unpacked r (compacted n) = Fields r 0 0 0 0 n
 Unpacked r (agreed true) = Fields r 0 0 0 0 1
 Unpacked r (agreed false) = Fields r 0 0 0 0 0
 Unpacked r (listed n) = Fields r 0 0 0 0 n
+Unpacked r (explained n) = Fields r 0 0 0 0 n
 Unpacked r (refused x) = Fields r (refusalNumber x) 0 0 0 0
 
 answer-unpacked : (a : Answer) → Bounded a → Unpacked (packed a) a
@@ -53,6 +54,7 @@ answer-unpacked (compacted n) h = unpacks 0 0 0 0 n _ (omega arith) (omega arith
 answer-unpacked (agreed true) h = unpacks 0 0 0 0 1 _ (omega arith) (omega arith) (omega arith) (omega arith) (omega arith)
 answer-unpacked (agreed false) h = unpacks 0 0 0 0 0 _ (omega arith) (omega arith) (omega arith) (omega arith) (omega arith)
 answer-unpacked (listed n) h = unpacks 0 0 0 0 n _ (omega arith) (omega arith) (omega arith) (omega arith) (omega arith)
+answer-unpacked (explained n) h = unpacks 0 0 0 0 n _ (omega arith) (omega arith) (omega arith) (omega arith) (omega arith)
 answer-unpacked (refused x) h = unpacks (refusalNumber x) 0 0 0 0 _ (omega arith) (omega arith) (omega arith) (omega arith) (omega arith)
 
 -- Whatever a call exported answers, its fields are those of document 01's answer.
@@ -70,6 +72,7 @@ bounded-alone (collected p n e) h = h
 bounded-alone (compacted n) h = h
 bounded-alone (agreed t) h = h
 bounded-alone (listed n) h = h
+bounded-alone (explained n) h = h
 bounded-alone (refused r) h = h
 
 -- So are those of a call of the plain engine, but for the predicted page and the levels, which it hasn't.

@@ -6,7 +6,7 @@ use mathlib.Core.Bool.{true, false}
 use Prim.Native.Nat.{ℕ, _+_, _*_}
 use Rattle.model.specs.Device.{Device, withinLimits, stateLength, spareLength}
 use Rattle.calls.specs.Refusals.{refusalNumber}
-use Rattle.calls.specs.Outcome.{Answer, formatted, flushed, found, notWritten, discarded, collected, compacted, agreed, listed, refused}
+use Rattle.calls.specs.Outcome.{Answer, formatted, flushed, found, notWritten, discarded, collected, compacted, agreed, listed, explained, refused}
 use Rattle.calls.specs.History.{Call}
 use Rattle.state.specs.Ran.{Slices, Ran}
 use Rattle.plain.specs.Table.{tableLength}
@@ -38,6 +38,7 @@ packed (compacted n) = n
 packed (agreed true) = 1
 packed (agreed false) = 0
 packed (listed n) = n
+packed (explained n) = n
 packed (refused r) = refusalNumber r * bit60
 
 -- What an exported call promises: it ran as document 01 says, and r is its answer's number.
@@ -57,6 +58,7 @@ pageAlone (collected p n e) = collected p n e
 pageAlone (compacted n) = compacted n
 pageAlone (agreed t) = agreed t
 pageAlone (listed n) = listed n
+pageAlone (explained n) = explained n
 pageAlone (refused r) = refused r
 
 -- What an exported call of the plain engine promises: it ran as document 02 says, and r is its answer's number.

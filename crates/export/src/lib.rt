@@ -8,6 +8,7 @@ use front::device::within_limits;
 use lookup::agree::agree;
 use lookup::list::list;
 use lookup::lookup::lookup;
+use lookup::why::why;
 use plainstate::places::table_len;
 use state::numbers::state_len;
 use upkeep::compact::compact;
@@ -16,7 +17,7 @@ use upkeep::format::format;
 ghost use mathlib.Core.Path.{_≡_};
 ghost use mathlib.Core.List.{List, []};
 ghost use Prim.Native.Nat.{ℕ};
-ghost use Rattle.calls.specs.History.{formatCall, flushCall, lookupCall, discardCall, collectCall, compactCall, agreeCall, listCall};
+ghost use Rattle.calls.specs.History.{formatCall, flushCall, lookupCall, discardCall, collectCall, compactCall, agreeCall, listCall, whyCall};
 ghost use Rattle.plain.specs.Calls as plain;
 ghost use Rattle.front.specs.Reading.{numbersAt};
 ghost use Rattle.state.specs.Reading.{readState};
@@ -141,6 +142,15 @@ pub extern "C" fn hedjosur_list(state: &[u8], group: u32, out: &mut [u8]) -> u64
         (listingSlices (now (state .entry)) spare (now (out .exit)))) ⌝ }
 {
     pack::list(list(state, group, out))
+}
+
+// Document 02's telling of why, twelve bytes an entry at the start of `out`: the entries.
+#[no_mangle]
+pub extern "C" fn hedjosur_why(state: &[u8], page: u32, out: &mut [u8]) -> u64
+    ensures { λ r. ⌜ ((spare : List ℕ) → Packs (whyCall page (now (out .entry))) (now (state .entry)) spare r
+        (listingSlices (now (state .entry)) spare (now (out .exit)))) ⌝ }
+{
+    pack::why(why(state, page, out))
 }
 
 // The plain engine: the length of its state, in bytes; 0 where the numbers are outside their limits.

@@ -3,6 +3,7 @@ use answers::Agreed;
 use answers::Collected;
 use answers::Compacted;
 use answers::Discarded;
+use answers::Explained;
 use answers::Flushed;
 use answers::Formatted;
 use answers::Listed;
@@ -13,7 +14,7 @@ use answers::number;
 ghost use mathlib.Core.Path.{_≡_};
 ghost use Rattle.calls.specs.Outcome.{refused};
 ghost use Rattle.calls.specs.Bounds.{Bounded};
-ghost use Rattle.answers.specs.Answers.{refusalOf, formatAnswer, flushAnswer, lookupAnswer, plainLookupAnswer, discardAnswer, collectAnswer, compactAnswer, agreeAnswer, listAnswer};
+ghost use Rattle.answers.specs.Answers.{refusalOf, formatAnswer, flushAnswer, lookupAnswer, plainLookupAnswer, discardAnswer, collectAnswer, compactAnswer, agreeAnswer, listAnswer, whyAnswer};
 ghost use Rattle.export.specs.Packing.{packed, pageAlone};
 
 // The places of the fields behind the first.
@@ -118,5 +119,14 @@ pub fn list(a: Listed) -> u64
     match a {
         Listed::Done(n) => n as u64,
         Listed::Refused(r) => refused(r),
+    }
+}
+
+pub fn why(a: Explained) -> u64
+    ensures { λ n. ⌜ n ≡ packed (whyAnswer a) ⌝ }
+{
+    match a {
+        Explained::Done(n) => n as u64,
+        Explained::Refused(r) => refused(r),
     }
 }

@@ -15,7 +15,7 @@ use Rattle.calls.specs.Lookup.{lookupDone}
 use Rattle.calls.specs.Collection.{victims, moves, eraseBlock, eraseBlocks, listErased, collectDone, moveAll}
 use Rattle.calls.specs.Choice.{blocksOf}
 use Rattle.calls.specs.Compaction.{compactGroup, compactDone}
-use Rattle.calls.specs.History.{Call, formatCall, flushCall, lookupCall, discardCall, collectCall, compactCall, agreeCall, listCall, lend, lentTo, checksOf, effect, run}
+use Rattle.calls.specs.History.{Call, formatCall, flushCall, lookupCall, discardCall, collectCall, compactCall, agreeCall, listCall, whyCall, lend, lentTo, checksOf, effect, run}
 use Rattle.calls.proofs.Collected.{moved-rest}
 use Rattle.listing.specs.declared.lent.Held.{Held}
 use Rattle.listing.specs.Sizes.{spareRoom, stateRoom}
@@ -73,6 +73,7 @@ lent-state (collectCall plan erased) s spare = refl
 lent-state (compactCall k) s spare = refl
 lent-state (agreeCall a sa b sb) s spare = refl
 lent-state (listCall k out) s spare = refl
+lent-state (whyCall x out) s spare = refl
 
 run-keeps : (c : Call) → Keeps c → (s : State) (spare : List ℕ) → run c s spare .after .state .device ≡ s .device
 unfolding run unless outcome

@@ -8,3 +8,7 @@ pub mod Told
 pub mod Grouped
 pub mod Agreeing
 pub mod Listing
+pub mod WhyEntries
+pub mod LevelByLevel
+pub mod WhyLeft
+pub mod WhyEnds

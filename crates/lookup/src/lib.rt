@@ -1,4 +1,4 @@
-// The calls that only read: lookup, agreement, a group's listing.
+// The calls that only read: lookup, agreement, a group's listing, telling why.
 pub mod agree;
 mod alike;
 mod astray;
@@ -6,3 +6,4 @@ mod compare;
 pub mod list;
 pub mod lookup;
 mod pages;
+pub mod why;

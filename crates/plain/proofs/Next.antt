@@ -9,7 +9,7 @@ use Rattle.calls.specs.PageMap.{PageMap, mapDone, noLists, MapPast, mapIdle, ma
 use Rattle.calls.proofs.MapDemand.{answers-accepted}
 use Rattle.plain.specs.Table.{Table}
 use Rattle.plain.specs.Calls.{Common, asCall, Outcome}
-use Rattle.plain.specs.Engines.{Only, compaction, agreement, listing}
+use Rattle.plain.specs.Engines.{Only, compaction, agreement, listing, telling}
 use Rattle.plain.proofs.Invariant.{Shown}
 use Rattle.plain.proofs.Ending.{Ended, refuses, accepts}
 use Rattle.plain.proofs.Refining.{lent-same}
@@ -32,6 +32,7 @@ unfolding mapDone noLists
 only-next c true m (compaction k) = refl
 only-next c true m (agreement s spare s′ spare′) = refl
 only-next c true m (listing k out) = refl
+only-next c true m (telling x out) = refl
 only-next c false m o = refl
 
 -- A call of the plain engine leaves a table that shows that map.

@@ -11,7 +11,7 @@ use Rattle.calls.specs.Refusals.{Refusal}
 use Rattle.calls.specs.Outcome as learned
 use Rattle.calls.specs.Outcome.{Answer}
 use Rattle.calls.specs.History as history
-use Rattle.calls.specs.History.{Call, compactCall, agreeCall, listCall}
+use Rattle.calls.specs.History.{Call, compactCall, agreeCall, listCall, whyCall}
 use Rattle.plain.specs.Table.{Table, tableLength}
 use Rattle.plain.specs.Calls.{Common, format, flush, lookup, discard, collect, asCall, run}
 
@@ -56,11 +56,12 @@ alone c h = record {
   table = h .table;
 }
 
--- compaction, agreement and listing run on the learned one alone
+-- compaction, agreement, listing and telling why run on the learned one alone
 pub data Only : Call → Type 0 where
   compaction : (k : ℕ) → Only (compactCall k)
   agreement : (s : State) (spare : List ℕ) (s′ : State) (spare′ : List ℕ) → Only (agreeCall s spare s′ spare′)
   listing : (k : ℕ) (out : List ℕ) → Only (listCall k out)
+  telling : (x : ℕ) (out : List ℕ) → Only (whyCall x out)
 
 -- "the same calls": a list of them leads from one pair to another
 pub data Together : Pair → Pair → Type 0 where

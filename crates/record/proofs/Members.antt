@@ -5,7 +5,7 @@ use Prim.Native.Nat.{ℕ, _+_, _-_, _/_, _%_, _≤_, _<_}
 use native.Mathlib.Omega.{arith}
 use native.Mathlib.Nat.{mod-one}
 use lib.Dec.{leb, eqb}
-use borrow.Author.Tests.{leb-true, le-leb, lt-leb, eqb-true, eqb-false, eq-eqb, ne-eqb}
+use borrow.Author.Tests.{leb-true, leb-false, le-leb, eqb-true, eqb-false, eq-eqb, ne-eqb}
 use Rattle.model.specs.Lists.{elem}
 use Rattle.model.specs.Record.{Record, Kind, single, accurate, approximate, kind, isApproximate, covers, memberAs, member}
 use Rattle.model.specs.Levels.{meets}
@@ -18,14 +18,6 @@ split a b c h =
     iff-bool _ _ (λ e. le-leb c (a + b) (omega (arith, leb-true (c - a) b e))) (λ e. le-leb (c - a) b (omega (arith, leb-true c (a + b) e)))
 
 module _ (r : Record) (o : ℕ) where
-  pub covers-below : o < r .start → false ≡ covers r o
-  unfolding covers
-  covers-below h = rw (lt-leb (r .start) o h)
-
-  pub covers-from : r .start ≤ o → leb (o - r .start) (r .span) ≡ covers r o
-  unfolding covers
-  covers-from h = rw (le-leb (r .start) o h) (split _ _ _ h)
-
   pub member-owned : r .word % 2 ≡ 1 → elem o (r .owned) ≡ member r o
   unfolding member memberAs
   member-owned h = rw (kind-odd _ h)
@@ -50,14 +42,21 @@ module _ (r : Record) (o : ℕ) where
           go (accurate d) f = rw uncovered
           go (approximate a) f = sym (is-false _ (λ h. true≢false (sym (f refl h) ∙ uncovered)))
 
-    module _ (near : (o + 256 - r .start) % 256 ≤ r .span) (even : r .word % 2 ≡ 1 → ⊥) where
-      covered : covers r o ≡ true
-      unfolding covers
-      covered = and-i _ _ (le-leb (r .start) o (omega arith)) (le-leb o (r .start + r .span) (omega arith))
+    covered : (o + 256 - r .start) % 256 ≤ r .span → covers r o ≡ true
+    unfolding covers
+    covered near = and-i _ _ (le-leb (r .start) o (omega arith)) (le-leb o (r .start + r .span) (omega arith))
 
+    pub covers-near : leb ((o + 256 - r .start) % 256) (r .span) ≡ covers r o
+    covers-near = go (leb ((o + 256 - r .start) % 256) (r .span)) refl
+      where
+        go : (t : Bool) → leb ((o + 256 - r .start) % 256) (r .span) ≡ t → t ≡ covers r o
+        go true e = sym (covered (leb-true _ _ e))
+        go false e = sym (uncovered (leb-false _ _ e))
+
+    module _ (near : (o + 256 - r .start) % 256 ≤ r .span) (even : r .word % 2 ≡ 1 → ⊥) where
       strided : (r .word ≡ 0 → ⊥) → member r o ≡ eqb ((o - r .start) % (r .word / 2)) 0
       unfolding member memberAs
-      strided some = rw (kind-even _ some even, covered)
+      strided some = rw (kind-even _ some even, covered near)
 
       pub member-every : (r .word ≡ 0 → r .span ≡ 0) → r .word ≤ 2 → true ≡ member r o
       member-every point low = go (eqb (r .word) 0) refl

@@ -45,12 +45,10 @@ impl Record {
 
     // Whether offset o lies in the range.
     pub fn covers(self, o: u32) -> bool
+        requires { ⌜ (o < 256) × (self .start + self .span ≤ 255) ⌝ }
         ensures { λ r. ⌜ ((owned : List ℕ) → r ≡ covers (asRecord self owned) o) ⌝ }
     {
-        if o < self.start {
-            return false;
-        }
-        o - self.start <= self.span
+        (o + 256 - self.start) % 256 <= self.span
     }
 
     // Whether offset o is a member; of an approximate record, those that it owns are, which lie in its range.

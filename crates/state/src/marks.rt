@@ -36,7 +36,7 @@ pub fn set_marks_byte(state: &mut [u8], d: Numbers, k: u32, v: u32)
 }
 
 // Whether logical page x is marked.
-pub(crate) fn is_marked(state: &[u8], d: Numbers, x: u32) -> bool
+pub fn is_marked(state: &[u8], d: Numbers, x: u32) -> bool
     requires { ⌜ Shaped (numbersOf d) (readState (now state)) × (x < d .n) ⌝ }
     ensures { λ r. ⌜ r ≡ isMarked (readState (now (state .entry)) .marks) x ⌝ }
 {

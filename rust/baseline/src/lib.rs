@@ -5,7 +5,7 @@
 //! - [`sort`]: a batch's last arrivals, sorted
 //! - [`learn`]: the runs of a sorted batch and their records
 //! - [`record`]: the record by value, and [`offsets`]: a set of offsets, in words
-//! - [`group`]: one group's bytes: soundness, find, all predictions, insert, compact
+//! - [`group`]: one group's bytes: soundness, find, why, all predictions, insert, compact
 //! - [`device`]: the calls on a whole state
 //! - [`plain`]: those of the plain engine, on a table of pages
 //!

@@ -24,6 +24,8 @@ pub struct Buffers {
     pub plan: Vec<u32>,
     /// The list of erased blocks.
     pub erased: Vec<u32>,
+    /// The entries that tell why.
+    pub entries: Vec<u8>,
 }
 
 impl Buffers {
@@ -35,6 +37,7 @@ impl Buffers {
             area,
             plan,
             erased,
+            entries: vec![0; hedjosur::WHY_LEN],
         }
     }
 
@@ -86,6 +89,7 @@ impl Buffers {
             area,
             plan,
             erased,
+            ..
         } = self;
         calls.collect(state, area, plan, erased)
     }

@@ -6,18 +6,22 @@ use hedjosur_baseline::device;
 use hedjosur_conformance::subjects::Baseline;
 use hedjosur_layout::encode_state;
 use hedjosur_model::device::Device;
+use hedjosur_model::ops::Lookup;
 use hedjosur_model::spare;
 use hedjosur_model::state::State;
 use hedjosur_model::testing::{full_device, Random};
 
 use crate::batches::{inputs, LEARNED};
 use crate::buffers::{time, time_each, Buffers};
-use crate::kinds::{self, Kind, MIXED};
+use crate::kinds::{self, Kind, DEEP, GAPPED, MIXED};
 use crate::row;
 use crate::timing::compare;
 
 /// How many groups of a kind take turns.
 const GROUPS: u64 = 16;
+
+/// Whether logical pages that a lookup answers this of are asked for.
+type Asked = fn(Lookup) -> bool;
 
 /// A device of one group of a kind, and logical pages that lookups don't refuse.
 struct OneGroup {
@@ -28,7 +32,7 @@ struct OneGroup {
 impl OneGroup {
     /// A group's records predict pages, and the spare area names as many logical
     /// pages as it can where they are predicted.
-    fn new((_, group): Kind, bound: u32, seed: u64) -> OneGroup {
+    fn new((_, group): Kind, bound: u32, seed: u64, asked: Asked) -> OneGroup {
         let random = &mut Random::new(seed);
         let device = full_device(9, 64, bound);
         let state = State {
@@ -48,7 +52,7 @@ impl OneGroup {
         }
         let state = encode_state(&state, || 0).expect("a state with bytes");
         let mut pages: Vec<u32> = (0..256)
-            .filter(|&page| device::lookup(&state, &area, page).is_ok())
+            .filter(|&page| device::lookup(&state, &area, page).is_ok_and(asked))
             .collect();
         random.shuffle(&mut pages);
         pages.truncate(8);
@@ -56,9 +60,14 @@ impl OneGroup {
         OneGroup { buffers, pages }
     }
 
-    /// The devices of a kind that take turns.
+    /// The devices of a kind that take turns, with any logical pages.
     fn all(kind: Kind, bound: u32) -> Vec<OneGroup> {
-        let devices = (0..GROUPS).map(|seed| OneGroup::new(kind, bound, seed));
+        OneGroup::asked(kind, bound, |_| true)
+    }
+
+    /// The devices of a kind that take turns, with logical pages that are asked for.
+    fn asked(kind: Kind, bound: u32, asked: Asked) -> Vec<OneGroup> {
+        let devices = (0..GROUPS).map(|seed| OneGroup::new(kind, bound, seed, asked));
         devices.collect()
     }
 
@@ -146,10 +155,47 @@ pub fn discard() {
     }
 }
 
+/// Times telling why, in groups of all kinds, and of logical pages that are found at
+/// the top, that are found far down, and that aren't written.
+pub fn why() {
+    for kind in kinds::all() {
+        time_whys(kind.0, OneGroup::all(kind, 1));
+    }
+    let [.., mixed] = MIXED;
+    let at_the_top: Asked = |lookup| matches!(lookup, Lookup::Found { levels: 1, .. });
+    let far_down: Asked = |lookup| matches!(lookup, Lookup::Found { levels: 10.., .. });
+    let unwritten: Asked = |lookup| lookup.page().is_none();
+    for (kind, name, asked) in [
+        (mixed, "top", at_the_top),
+        (mixed, "far down", far_down),
+        (GAPPED, "unwritten", unwritten),
+        (DEEP, "unwritten", unwritten),
+    ] {
+        let input = format!("{}, {name}", kind.0);
+        time_whys(&input, OneGroup::asked(kind, 1, asked));
+    }
+}
+
+/// Times tellings of why.
+fn time_whys(input: &str, work: Vec<OneGroup>) {
+    time_pages(
+        "why",
+        input,
+        work,
+        |Buffers { state, entries, .. }, page| {
+            let _ = black_box(device::why(state, page, entries));
+        },
+        |Buffers { state, entries, .. }, page| {
+            let device = hedjosur::Device { state, spare: () };
+            let _ = black_box(device.why(page, entries));
+        },
+    );
+}
+
 /// Times the compaction of one group.
 pub fn compaction() {
     for kind in kinds::all() {
-        let before = OneGroup::new(kind, 1, 0).buffers;
+        let before = OneGroup::new(kind, 1, 0, |_| true).buffers;
         time("compaction", kind.0, before, |calls, buffers| {
             assert!(buffers.compact(calls, 0).is_ok());
         });

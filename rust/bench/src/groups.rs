@@ -7,7 +7,7 @@ use hedjosur_baseline::group;
 use hedjosur_baseline::record::Record;
 use hedjosur_conformance::inputs::{all_offsets, mask_of};
 use hedjosur_conformance::subjects::{Baseline, Subject};
-use hedjosur_layout::{encode_group, encode_record, Part, GROUP_BYTES};
+use hedjosur_layout::{encode_group, Part, GROUP_BYTES};
 use hedjosur_model::testing::{any_record, Random};
 use hedjosur_probe_sys as probe;
 
@@ -101,7 +101,7 @@ fn any_new(random: &mut Random) -> New {
     let start = random.bits() as u8;
     let record = any_record(random, start, 255, &all_offsets());
     New {
-        record: encode_record(&record),
+        record: record.bytes(),
         mask: mask_of(&record),
     }
 }

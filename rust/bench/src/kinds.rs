@@ -22,7 +22,12 @@ pub const MIXED: [Kind; 4] = [
 const NEARLY_FULL: Kind = ("511 records", |random| mixed(random, 511));
 
 /// As many levels as a group can have.
-const DEEP: Kind = ("512 records, deep", deep);
+pub const DEEP: Kind = ("512 records, deep", deep);
+
+/// As the last of the mixed ones, with one offset that no record has and many cover.
+pub const GAPPED: Kind = ("512 records", |random| {
+    filled(random, 512, |record| !record.has(128))
+});
 
 /// Groups of other shapes.
 const SHAPED: [Kind; 3] = [
@@ -49,6 +54,11 @@ pub fn crowded(random: &mut Random) -> Group {
 
 /// Levels of records of all kinds, until there are so many.
 fn mixed(random: &mut Random, size: usize) -> Group {
+    filled(random, size, |_| true)
+}
+
+/// Levels of records of all kinds that a condition holds for, until there are so many.
+fn filled(random: &mut Random, size: usize, holds: impl Fn(&Record) -> bool) -> Group {
     let mut group = Group::default();
     let mut unowned = all_offsets();
     while group.size() < size {
@@ -56,6 +66,10 @@ fn mixed(random: &mut Random, size: usize) -> Group {
         let mut next = random.below(8);
         while next <= 255 && group.size() + level.len() < size {
             let record = any_record(random, next as u8, 255, &unowned);
+            if !holds(&record) {
+                next += 1;
+                continue;
+            }
             unowned = &unowned - &record.owns;
             next = record.last() + random.between(1, 8);
             level.push(record);

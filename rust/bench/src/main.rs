@@ -22,7 +22,7 @@ use std::process::ExitCode;
 use timing::Comparison;
 
 /// What is timed, by the function's name in the table.
-const PARTS: [(&str, fn()); 24] = [
+const PARTS: [(&str, fn()); 25] = [
     ("learn", batches::learning),
     ("sort", batches::sorting),
     ("program", passes::programming),
@@ -33,6 +33,7 @@ const PARTS: [(&str, fn()); 24] = [
     ("lookup", calls::lookup),
     ("lookup", calls::lookup_of_discarded),
     ("discard", calls::discard),
+    ("why", calls::why),
     ("compaction", calls::compaction),
     ("format", calls::format),
     ("flush", calls::flush),

@@ -25,16 +25,10 @@ impl Answers {
         std::array::from_fn(|number| self.0.values().map(|answers| answers[number]).sum())
     }
 
-    /// Of one kind, how many calls were accepted, and how many refused for each
-    /// reason.
-    pub fn of(&self, call: &str) -> Counts {
-        self.0.get(call).copied().unwrap_or_default()
-    }
-
     /// The answers of one kind's calls: 0 where some were accepted, and the refusals
     /// that occurred, by number.
     pub fn met(&self, call: &str) -> Vec<usize> {
-        let answers = self.of(call);
+        let answers = self.0.get(call).copied().unwrap_or_default();
         (0..answers.len())
             .filter(|&number| answers[number] > 0)
             .collect()

@@ -1,7 +1,7 @@
 //! Single calls: on arbitrary states, with wrong lengths, and with numbers at and
 //! past their limits.
 
-use hedjosur::LISTING_LEN;
+use hedjosur::{LISTING_LEN, WHY_LEN};
 use hedjosur_layout::{
     encode_plain_state, encode_state, groups_at, state_bytes, GROUP_BYTES, HEAD_BYTES,
 };
@@ -70,6 +70,9 @@ pub fn check_arbitrary_states(calls: &impl Calls, base: u64) {
                     let mut out = vec![0u8; LISTING_LEN];
                     resize(random, &mut out);
                     let _ = beside.list(group, out.len());
+                    out.resize(WHY_LEN, 0);
+                    resize(random, &mut out);
+                    let _ = beside.why(number, out.len());
                     let _ = beside.compact(group);
                 }
                 _ => drop(beside.agree((&other, &other_area))),
@@ -79,16 +82,25 @@ pub fn check_arbitrary_states(calls: &impl Calls, base: u64) {
     });
     let met = answers.totals().map(|times| times > 0);
     assert_eq!(met, [true; 9], "{answers:?}");
-    // It is accepted, or refused 1 to 4.
-    let met = answers.of("discard").map(|times| times > 0);
-    assert_eq!((&met[..5], &met[5..]), (&[true; 5][..], &[false; 4][..]));
+    assert_eq!(answers.met("discard"), [0, 1, 2, 3, 4]);
+    assert_eq!(answers.met("why"), [0, 1, 2, 3, 4]);
     answers.tell("arbitrary states", 65 * (base * multiplier()) as usize);
 }
 
 /// Any state of a device, with its spare area: mostly sound and of the right
 /// length.
 fn arbitrary(random: &mut Random, device: &Device) -> (Vec<u8>, Vec<u32>) {
-    let mut state: State = sound_state(random, device);
+    let state = sound_state(random, device);
+    perhaps_damaged(random, device, state)
+}
+
+/// A state of a device in bytes, with a spare area that names many of its pages: mostly
+/// as it was and of the right length.
+pub(crate) fn perhaps_damaged(
+    random: &mut Random,
+    device: &Device,
+    mut state: State,
+) -> (Vec<u8>, Vec<u32>) {
     let mut area = any_area(random, device);
     aim(random, device, &mut state, &mut area);
     if random.once_in(12) {
@@ -220,32 +232,34 @@ pub fn check_wrong_lengths(calls: &impl Calls) {
         answers.accepted() > 0 && refused.iter().all(|&times| times > 0),
         "{answers:?}"
     );
-    answers.tell("wrong lengths", 1900 * multiplier() as usize);
+    answers.tell("wrong lengths", 2500 * multiplier() as usize);
 }
 
-/// The right lengths of plan, erased list and listing.
-fn list_lengths(device: &Device) -> [usize; 3] {
+/// The right lengths of plan, erased list, listing and entries.
+fn list_lengths(device: &Device) -> [usize; 4] {
     [
         device.block_pages as usize,
         device.blocks as usize,
         LISTING_LEN,
+        WHY_LEN,
     ]
 }
 
-/// One call of each kind on the same buffers, with a plan, an erased list and a
-/// listing of these lengths; agreement with themselves and with other buffers.
+/// One call of each kind on the same buffers, with a plan, an erased list, a listing
+/// and entries of these lengths; agreement with themselves and with other buffers.
 fn one_of_each<C: Calls>(
     beside: &mut Beside<C>,
     device: &Device,
     (bytes, area): (Vec<u8>, Vec<u32>),
     (other_bytes, other_area): (&[u8], &[u32]),
-    [plan, erased, listing]: [usize; 3],
+    [plan, erased, listing, entries]: [usize; 4],
 ) {
     let (mut plan, mut erased) = (vec![777_777; plan], vec![888_888; erased]);
     let last = device.logical_pages - 1;
     beside.lend(bytes.clone(), area.clone());
     let _ = beside.lookup(last);
     let _ = beside.list(0, listing);
+    let _ = beside.why(last, entries);
     let _ = beside.agree((&bytes, &area));
     let _ = beside.agree((other_bytes, other_area));
     let _ = beside.compact(0);
@@ -291,7 +305,7 @@ pub fn check_limits(calls: &impl Calls) {
         let other = (&other.0[..], &other.1[..]);
         one_of_each(beside, &device, (bytes, area), other, list_lengths(&device));
     }
-    answers.tell("numbers at their limits", 44_000);
+    answers.tell("numbers at their limits", 48_000);
 }
 
 /// Device numbers, each at, inside and past its limits.
@@ -335,9 +349,9 @@ pub fn check_arguments(calls: &impl Calls) {
         assert!(beside.flush(&[0, 1, n - 2, n - 1], &mut plan).is_ok());
         for page in (0..3).chain(n - 2..n + 3).chain(FAR) {
             let expected = (page >= n).then_some(Refusal::OutOfRange);
-            assert_eq!(beside.lookup(page).err(), expected);
+            assert_eq!(beside.explain(page).told.err(), expected);
             assert_eq!(beside.discard(page).err(), expected);
-            assert_eq!(beside.lookup(page).err(), expected);
+            assert_eq!(beside.explain(page).told.err(), expected);
         }
         for group in (0..groups + 2).chain(FAR) {
             let expected = (group >= groups).then_some(Refusal::OutOfRange);
@@ -351,7 +365,7 @@ pub fn check_arguments(calls: &impl Calls) {
             assert_eq!(beside.flush(&batch, &mut plan).err(), refusal);
         }
     });
-    answers.tell("arguments at their limits", 900 * multiplier() as usize);
+    answers.tell("arguments at their limits", 1000 * multiplier() as usize);
 }
 
 /// Numbers that no logical page and no group has.

@@ -1,6 +1,5 @@
 //! Sorting and learning against the model.
 
-use hedjosur_layout::encode_record;
 use hedjosur_model::learn::{last_arrivals, learn};
 use hedjosur_model::testing::{rounds, small_device};
 
@@ -50,7 +49,7 @@ pub fn check_learning(subject: &impl Subject) {
         let learned = learn(device.bound, first, &written);
         let room = 8 * (written.len() + random.below(2) as usize);
         let mut out = vec![0xA5; room];
-        let records = learned.iter().flat_map(|one| encode_record(&one.record));
+        let records = learned.iter().flat_map(|one| one.record.bytes());
         let expected = front_of(&out, records);
         let count = subject.learn(&written, first, device.bound, &mut out);
         assert_eq!(count, learned.len());

@@ -3,17 +3,18 @@
 
 use std::fmt::Debug;
 
-use hedjosur::LISTING_LEN;
+use hedjosur::{LISTING_LEN, WHY_LEN};
 use hedjosur_layout::{read_state, state_bytes};
 use hedjosur_model::device::Device;
 use hedjosur_model::ops::{self, Collected, Flushed, Lookup, Refusal};
 use hedjosur_model::script::{listed, Answer, Line, Listed};
 use hedjosur_model::state::Lent;
-use hedjosur_model::testing::{lists, CallLog, World};
+use hedjosur_model::testing::{lists, CallLog, Told, World};
 
 use crate::answers::Answers;
 use crate::calls::Calls;
 use crate::steps::Writer;
+use crate::why::{read_entries, Explained};
 
 /// A device as an implementation of the calls leaves it, beside the model's.
 #[derive(Debug)]
@@ -171,6 +172,33 @@ impl<'a, C: Calls> Beside<'a, C> {
         }
         assert!(out == expected, "the listing's bytes differ");
         answer
+    }
+
+    /// Tells why a logical page is found where it is, into a buffer of this length; what
+    /// stands behind the entries stays.
+    pub fn why(&mut self, logical_page: u32, length: usize) -> Result<Vec<Told>, Refusal> {
+        self.log.note(("why", logical_page, length));
+        let mut out = vec![0xA5; length];
+        let mut expected = out.clone();
+        let answer = self.read(
+            "why",
+            |model| {
+                let count = ops::why(&model.lent, logical_page, &mut expected)?;
+                Ok(read_entries(&expected, count))
+            },
+            |calls, state, _| calls.why(state, logical_page, &mut out),
+        );
+        assert!(out == expected, "the entries' bytes differ");
+        answer
+    }
+
+    /// Looks a logical page up and tells why; what is told fits the lookup.
+    pub fn explain(&mut self, logical_page: u32) -> Explained {
+        let lookup = self.lookup(logical_page);
+        let told = self.why(logical_page, WHY_LEN);
+        let explained = Explained { lookup, told };
+        explained.assert_fits();
+        explained
     }
 
     /// Lists every group.

@@ -2,6 +2,7 @@
 
 use hedjosur_model::ops::{Collected, Flushed, Lookup, Refusal};
 use hedjosur_model::script::Listed;
+use hedjosur_model::testing::Told;
 
 /// An implementation of the calls. State and spare area are lent as they are to
 /// the static library, answers and refusals are the model's.
@@ -36,6 +37,9 @@ pub trait Calls {
     fn agree(&self, one: (&[u8], &[u32]), other: (&[u8], &[u32])) -> Result<bool, Refusal>;
     /// Lists a group; its records stand at the front of `out`, too.
     fn list(&self, state: &[u8], group: u32, out: &mut [u8]) -> Result<Vec<Listed>, Refusal>;
+    /// Tells why a logical page is found where it is; the entries stand at the front of
+    /// `out`, too.
+    fn why(&self, state: &[u8], logical_page: u32, out: &mut [u8]) -> Result<Vec<Told>, Refusal>;
 }
 
 /// An implementation of the plain engine's calls, which are lent no spare area.

@@ -4,7 +4,7 @@
 
 use std::fmt::Debug;
 
-use hedjosur::LISTING_LEN;
+use hedjosur::{LISTING_LEN, WHY_LEN};
 use hedjosur_layout::{decode_plain_state, state_bytes};
 use hedjosur_model::device::Device;
 use hedjosur_model::ops::{Collected, Flushed, Refusal};
@@ -17,6 +17,7 @@ use hedjosur_model::testing::{
 use crate::answers::Answers;
 use crate::calls::{Calls, PlainCalls};
 use crate::steps::{discard_some, flush_by_any_means, Writer};
+use crate::why::Explained;
 
 /// What is lent to the two engines.
 #[derive(Clone, Debug)]
@@ -65,9 +66,9 @@ struct Met {
     finer: usize,
 }
 
-/// Random lists of calls on both engines, with compactions, agreements and listings on
-/// the learned one between: at least 60 calls a round. At the end of a list every
-/// logical page is looked up in both.
+/// Random lists of calls on both engines, with compactions, agreements, listings and
+/// tellings of why on the learned one between: at least 60 calls a round. At the end of
+/// a list every logical page is looked up in both.
 pub fn check_engines(calls: &(impl Calls + PlainCalls), base: u64) {
     let mut counts = (Answers::default(), Met::default());
     rounds(base, &mut counts, |random, log, (answers, met)| {
@@ -96,6 +97,7 @@ pub fn check_engines(calls: &(impl Calls + PlainCalls), base: u64) {
     assert_eq!(answers.met("flush"), [0, 2, 4, 5, 6]);
     assert_eq!(answers.met("lookup"), [0, 4]);
     assert_eq!(answers.met("discard"), [0, 4]);
+    assert_eq!(answers.met("why"), [0, 4]);
     assert_eq!(answers.met("collect"), [0, 2, 8]);
     for alone in ["compact", "agree", "list"] {
         assert_eq!(answers.met(alone), [0]);
@@ -191,7 +193,7 @@ impl<C: Calls + PlainCalls> Engines<'_, C> {
                 self.compare();
                 self.format(small_device(random), random);
             }
-            1..=14 => flush_by_any_means(self, &device, random, |engines, random| {
+            1..=14 => flush_by_any_means(self, &device, &batch(random, &device), |engines| {
                 for _ in 0..random.below(4) {
                     engines.between(random);
                 }
@@ -215,13 +217,14 @@ impl<C: Calls + PlainCalls> Engines<'_, C> {
         let device = self.device;
         let logical_page = any_logical_page(random, device.logical_pages.into());
         let group = random.below(device.groups() as u32);
-        match random.below(12) {
+        match random.below(13) {
             0..=3 => self.lookup(logical_page),
             4 | 5 => drop(self.discard(logical_page)),
             6 => discard_some(self, &device, random),
             7 => self.compact(group),
             8 => self.agree(random),
             9 => self.list(group),
+            10 => self.why(logical_page),
             _ => self.refused(random),
         }
     }
@@ -281,6 +284,19 @@ impl<C: Calls + PlainCalls> Engines<'_, C> {
         let answer = self.calls.list(&self.lent.learned, group, out);
         assert!(answer.is_ok());
         self.answers.count("list", &answer);
+    }
+
+    /// A telling of why, which the plain engine hasn't; a lookup tells whether it fits.
+    fn why(&mut self, logical_page: u32) {
+        self.log.note(("why", logical_page));
+        let Lent { learned, area, .. } = &self.lent;
+        let out = &mut [0; WHY_LEN];
+        let explained = Explained {
+            lookup: Calls::lookup(self.calls, learned, area, logical_page),
+            told: self.calls.why(learned, logical_page, out),
+        };
+        explained.assert_fits();
+        self.answers.count("why", &explained.told);
     }
 }
 

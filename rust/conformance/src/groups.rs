@@ -1,6 +1,6 @@
 //! Soundness, find, insertion and compaction against the model.
 
-use hedjosur_layout::{decode_group, encode_record, read_group, Part};
+use hedjosur_layout::{decode_group, read_group, Part};
 use hedjosur_model::device::Device;
 use hedjosur_model::learn::{last_arrivals, learn};
 use hedjosur_model::levels::{Group, GROUP_RECORDS};
@@ -95,7 +95,7 @@ impl<S: Subject> Pair<'_, S> {
         }
         self.log.note(("insert", &record));
         let mask = mask_of(&record);
-        let record_bytes = encode_record(&record);
+        let record_bytes = record.bytes();
         self.group.insert(record);
         let count = self.subject.insert(&mut self.bytes, &record_bytes, &mask);
         self.agree(count);

@@ -53,8 +53,8 @@ pub fn check_script(calls: &impl Calls) {
 }
 
 /// Random lists of calls, on buffers that held anything before the format: at least
-/// 180 a round. Every group is listed after every call, and at the end logical
-/// pages are looked up.
+/// 300 a round. Every group is listed after every call, and a logical page is looked up
+/// and told of; at the end many are.
 pub fn check_histories(calls: &impl Calls, base: u64) {
     let mut counts = (Answers::default(), 0);
     rounds(base, &mut counts, |random, log, (answers, emptied)| {
@@ -77,7 +77,7 @@ pub fn check_histories(calls: &impl Calls, base: u64) {
         "{answers:?}"
     );
     assert_eq!([Refusal::NotSound, Refusal::NotNamed].map(refused), [0, 0]);
-    answers.tell("histories", 180 * (base * multiplier()) as usize);
+    answers.tell("histories", 300 * (base * multiplier()) as usize);
 }
 
 /// Devices with the same lengths of state and spare area, formatted one after the
@@ -93,7 +93,7 @@ pub fn check_shared_lengths(calls: &impl Calls) {
             history(&mut beside, &random.pick(devices), random);
         }
     });
-    answers.tell("devices of one length", 12_000 * multiplier() as usize);
+    answers.tell("devices of one length", 20_000 * multiplier() as usize);
 }
 
 /// Small devices by the lengths of what is lent, where some have more blocks than
@@ -130,7 +130,7 @@ fn history<C: Calls>(beside: &mut Beside<C>, device: &Device, random: &mut Rando
     for _ in 0..40 {
         let [mut plan, mut erased] = lists(device);
         match random.below(14) {
-            0..=5 => flush_by_any_means(beside, device, random, |beside, random| {
+            0..=5 => flush_by_any_means(beside, device, &batch(random, device), |beside| {
                 discard_some(beside, device, random);
             }),
             6 => {
@@ -145,9 +145,10 @@ fn history<C: Calls>(beside: &mut Beside<C>, device: &Device, random: &mut Rando
             _ => drop(beside.lookup(random.below(device.logical_pages))),
         }
         beside.list_all();
+        beside.explain(random.below(device.logical_pages));
     }
     for _ in 0..device.logical_pages.min(100) {
-        let _ = beside.lookup(random.below(device.logical_pages));
+        beside.explain(random.below(device.logical_pages));
     }
     emptied
 }
@@ -187,12 +188,8 @@ fn is_compacted_for_room<C: Calls>(
     );
     let mut more = None;
     for batch in batches {
-        let [mut plan, mut erased] = lists(device);
         let before = beside.list(0, LISTING_LEN).expect("a listing").len();
-        if beside.flush(&batch, &mut plan).is_err() {
-            assert!(beside.collect(&mut plan, &mut erased).is_ok());
-            assert!(beside.flush(&batch, &mut plan).is_ok());
-        }
+        flush_by_any_means(beside, device, &batch, |_| {});
         let sorted: Vec<u32> = last_arrivals(&batch).into_keys().collect();
         let learned = learn(device.bound, 0, &sorted);
         let new = learned.iter().filter(|one| one.group == 0).count();
@@ -208,8 +205,9 @@ fn is_compacted_for_room<C: Calls>(
     false
 }
 
-/// The largest device: flushes until a few of its blocks are used, lookups, discards,
-/// a compaction and a collection, at its first, last and other logical pages.
+/// The largest device: flushes until a few of its blocks are used, lookups with tellings
+/// of why, discards, a compaction and a collection, at its first, last and other logical
+/// pages.
 pub fn check_largest_device(calls: &impl Calls) {
     let mut answers = Answers::default();
     rounds(1, &mut answers, |random, log, answers| {
@@ -232,14 +230,14 @@ pub fn check_largest_device(calls: &impl Calls) {
             let [mut plan, _] = lists(&device);
             assert!(beside.flush(&batch, &mut plan).is_ok());
             for logical_page in [batch[0], batch[batch.len() - 1], last, last + 1] {
-                let _ = beside.lookup(logical_page);
+                beside.explain(logical_page);
             }
             let group = group_of(batch[0]) as u32;
             assert!(beside.list(group, LISTING_LEN).is_ok());
         }
         for logical_page in [0, last, last - 8] {
             assert_eq!(beside.discard(logical_page), Ok(()));
-            assert!(beside.lookup(logical_page).is_ok());
+            assert!(beside.explain(logical_page).lookup.is_ok());
         }
         assert_eq!(beside.discard(last + 1), Err(Refusal::OutOfRange));
         let groups = device.groups() as u32;
@@ -248,8 +246,8 @@ pub fn check_largest_device(calls: &impl Calls) {
         let [mut plan, mut erased] = lists(&device);
         assert!(beside.collect(&mut plan, &mut erased).is_ok());
         for _ in 0..50 {
-            let _ = beside.lookup(random.below(device.logical_pages));
+            beside.explain(random.below(device.logical_pages));
         }
     });
-    answers.tell("the largest device", 100 * multiplier() as usize);
+    answers.tell("the largest device", 180 * multiplier() as usize);
 }

@@ -14,6 +14,7 @@
 //! - [`arguments`]: calls on arbitrary states, with arguments and lengths of all
 //!   kinds
 //! - [`marks`]: discards on marks that hold anything
+//! - [`why`]: telling why, of arbitrary groups and beside lookups
 //! - [`agreement`]: agreement of states that differ in one thing
 //! - [`plain`]: the same for the plain engine's calls
 //! - [`engines`]: both engines side by side
@@ -35,8 +36,10 @@ pub mod groups;
 pub mod histories;
 pub mod inputs;
 pub mod marks;
+mod orders;
 pub mod passes;
 pub mod plain;
 pub mod scripts;
 pub mod steps;
 pub mod subjects;
+pub mod why;

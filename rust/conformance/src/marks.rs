@@ -41,7 +41,7 @@ pub fn check_marks(calls: &impl Calls) {
                     assert_eq!(beside.discard(logical_page), Ok(()));
                     expected[logical_page as usize] = true;
                     let discarded = Lookup::NotWritten { levels: 0 };
-                    assert_eq!(beside.lookup(logical_page), Ok(discarded));
+                    assert_eq!(beside.explain(logical_page).lookup, Ok(discarded));
                 }
                 1 => {
                     let batch = batch(random, &device);

@@ -2,7 +2,7 @@
 
 use hedjosur_model::device::Device;
 use hedjosur_model::ops::{Collected, Flushed, Refusal};
-use hedjosur_model::testing::{batch, lists, Random};
+use hedjosur_model::testing::{lists, Random};
 
 /// What makes the calls that both engines have and that write.
 pub trait Writer {
@@ -14,22 +14,21 @@ pub trait Writer {
     fn collect(&mut self, plan: &mut [u32], erased: &mut [u32]) -> Result<Collected, Refusal>;
 }
 
-/// A flush; where it is refused for want of a free block, a collection and the same
-/// flush again, with other calls between.
+/// Flushes a batch; where that is refused for want of a free block, a collection and the
+/// same flush again, with other calls between.
 pub fn flush_by_any_means<W: Writer>(
     writer: &mut W,
     device: &Device,
-    random: &mut Random,
-    between: impl Fn(&mut W, &mut Random),
+    batch: &[u32],
+    mut between: impl FnMut(&mut W),
 ) {
     let [mut plan, mut erased] = lists(device);
-    let batch = batch(random, device);
-    if let Err(refusal) = writer.flush(&batch, &mut plan) {
+    if let Err(refusal) = writer.flush(batch, &mut plan) {
         assert_eq!(refusal, Refusal::NoFreeBlock);
-        between(writer, random);
+        between(writer);
         assert!(writer.collect(&mut plan, &mut erased).is_ok());
-        between(writer, random);
-        assert!(writer.flush(&batch, &mut plan).is_ok());
+        between(writer);
+        assert!(writer.flush(batch, &mut plan).is_ok());
     }
 }
 

@@ -2,7 +2,7 @@
 
 use hedjosur_conformance::subjects::Baseline;
 use hedjosur_conformance::{
-    agreement, arguments, batches, engines, groups, histories, marks, passes,
+    agreement, arguments, batches, engines, groups, histories, marks, passes, why,
 };
 
 #[test]
@@ -73,6 +73,26 @@ fn agreement_after_calls() {
 #[test]
 fn agreement_of_pairs() {
     agreement::check_agreement(&Baseline, 1000);
+}
+
+#[test]
+fn telling_why_in_cases() {
+    why::check_cases(&Baseline);
+}
+
+#[test]
+fn telling_why_of_all_levels() {
+    why::check_full_buffer(&Baseline);
+}
+
+#[test]
+fn telling_why_of_arbitrary_groups() {
+    why::check_arbitrary_groups(&Baseline, 300);
+}
+
+#[test]
+fn telling_why_refused_in_order() {
+    why::check_orders(&Baseline);
 }
 
 #[test]

@@ -2,7 +2,7 @@
 //! wrapper. Each check tells how many calls it made without a difference.
 
 use hedjosur_conformance::subjects::Exported;
-use hedjosur_conformance::{agreement, arguments, engines, histories, marks};
+use hedjosur_conformance::{agreement, arguments, engines, histories, marks, why};
 
 #[test]
 fn cases() {
@@ -17,6 +17,26 @@ fn script() {
 #[test]
 fn random_histories() {
     histories::check_histories(&Exported, 2200);
+}
+
+#[test]
+fn telling_why_in_cases() {
+    why::check_cases(&Exported);
+}
+
+#[test]
+fn telling_why_of_all_levels() {
+    why::check_full_buffer(&Exported);
+}
+
+#[test]
+fn telling_why_of_arbitrary_groups() {
+    why::check_arbitrary_groups(&Exported, 2500);
+}
+
+#[test]
+fn telling_why_refused_in_order() {
+    why::check_orders(&Exported);
 }
 
 #[test]

@@ -89,6 +89,26 @@ static enum hedjosur_refusal gateway_discard(uint32_t logical_page)
     return hedjosur_device_discard(&device, logical_page);
 }
 
+/* Says, for support staff, why a read finds what it finds: a line for each level. */
+static enum hedjosur_refusal gateway_explain(uint32_t logical_page)
+{
+    static uint8_t why[HEDJOSUR_WHY_LEN];
+    uint32_t entries = 0;
+    enum hedjosur_refusal refusal =
+        hedjosur_device_why(&device, logical_page, why, sizeof why, &entries);
+    for (uint32_t i = 0; i < entries; i++) {
+        struct hedjosur_reason reason = hedjosur_reason_at(why, i);
+        printf("logical page %u: level %u: ", (unsigned)logical_page, (unsigned)reason.level);
+        if (reason.has_record)
+            printf("record %d..%d: ", reason.start, reason.start + reason.span);
+        printf("%s", hedjosur_reason_text(reason.kind));
+        if (reason.has_owner)
+            printf(", but by the approximate record from %d", reason.owner);
+        printf("\n");
+    }
+    return refusal;
+}
+
 /*
  * A NAND chip in memory: a block is erased whole, a page is programmed once after that,
  * the pages of a block ascending. It stops a driver that breaks these rules.
@@ -193,6 +213,8 @@ int main(void)
     /* The chip's spare area is what the table's mirror of it says. */
     if (memcmp(chip_spare, spare, sizeof spare) != 0)
         return 1;
+    /* What support staff reads of the second flat's second page. */
+    accepted(gateway_explain(RING + 1));
     /* A call that can't be done is refused and changes nothing. */
     enum hedjosur_refusal refusal = gateway_read(LOGICAL_PAGES, &found);
     printf("logical page %d: refused %d: %s\n", LOGICAL_PAGES, (int)refusal,

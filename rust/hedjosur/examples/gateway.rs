@@ -6,7 +6,7 @@
 
 #![forbid(unsafe_code)]
 
-use hedjosur::{Device, Numbers, Refusal};
+use hedjosur::{Device, Numbers, Refusal, WHY_LEN};
 
 const NUMBERS: Numbers = Numbers {
     blocks: 17,
@@ -66,6 +66,14 @@ impl Gateway {
     /// Discards a logical page: nothing is read there until it is written again.
     fn discard(&mut self, logical_page: u32) -> Result<(), Refusal> {
         self.device.discard(logical_page)
+    }
+
+    /// Says, for support staff, why a read finds what it finds: a line for each level.
+    fn explain(&self, logical_page: u32) -> Result<(), Refusal> {
+        for reason in self.device.why(logical_page, &mut [0; WHY_LEN])? {
+            println!("logical page {logical_page}: {reason}");
+        }
+        Ok(())
     }
 
     /// Frees blocks: copies pages by the plan, ascending, then erases what is listed.
@@ -189,6 +197,8 @@ pub fn main() -> Result<(), Refusal> {
     }
     // The chip's spare area is what the table's mirror of it says.
     assert_eq!(gateway.chip.spare.as_flattened(), gateway.device.spare);
+    // What support staff reads of the second flat's second page.
+    gateway.explain(RING + 1)?;
     // A call that can't be done is refused and changes nothing.
     match gateway.read(NUMBERS.logical_pages) {
         Err(refusal) => println!("logical page {}: {refusal}", NUMBERS.logical_pages),

@@ -25,21 +25,21 @@
  * TWO ENGINES. hedjosur_plain_... are the calls of a plain table, one page number of 32
  * bits for each logical page; a struct hedjosur_plain_device has them taken apart, and
  * examples/recorder.c is a driver with it. It is lent the state alone, no spare area,
- * and has neither compaction nor agreement nor listing. From a format, the same calls
- * give the same pages, plans, erased lists and refusals in both engines, and what is
- * said here of a call holds for both. Take the plain one where 4 bytes for each logical
- * page are to spare: it is lent less than the learned one, and no page's out-of-band
- * bytes are needed; but all of its bytes are in use, and flush and collection go over
- * all of them, with 145 KB of stack. Take the learned one where the stack is small, or
- * where the bytes in use have to be few, because the table is stored or sent: neighbours
- * that are written together share a record. A state of one engine is refused 2 by the
- * other, since it never has the other's length.
+ * and has no compaction, agreement, listing or telling why. From a format, the same
+ * calls give the same pages, plans, erased lists and refusals in both engines, and what
+ * is said here of a call holds for both. Take the plain one where 4 bytes for each
+ * logical page are to spare: it is lent less than the learned one, and no page's
+ * out-of-band bytes are needed; but all of its bytes are in use, and flush and
+ * collection go over all of them, with 145 KB of stack. Take the learned one where the
+ * stack is small, or where the bytes in use have to be few, because the table is stored
+ * or sent: neighbours that are written together share a record. A state of one engine is
+ * refused 2 by the other, since it never has the other's length.
  *
  * WHATEVER IS LENT, a call answers or refuses; a refused call changes nothing. All
  * that is required: pointers are not null, also where a length is 0; a slice is
  * aligned as its element type is (the state not at all, 32-bit entries by 4 bytes);
  * the slices of one call don't overlap where one of them is written. Two calls on one
- * device may run at the same time if both only read (lookup, agree, list).
+ * device may run at the same time if both only read (lookup, agree, list, why).
  *
  * THE STATE is the table itself: HEDJOSUR_STATE_LEN bytes, or for the plain engine
  * HEDJOSUR_PLAIN_STATE_LEN, exactly. docs/LAYOUT.md fixes them, so they may be stored
@@ -123,9 +123,9 @@ extern "C" {
 #endif
 
 /* The version of this header, of the Rust crate and of the archive's interface. */
-#define HEDJOSUR_VERSION "0.4.0"
+#define HEDJOSUR_VERSION "0.5.0"
 #define HEDJOSUR_VERSION_MAJOR 0
-#define HEDJOSUR_VERSION_MINOR 4
+#define HEDJOSUR_VERSION_MINOR 5
 #define HEDJOSUR_VERSION_PATCH 0
 
 /* The version that the caller was compiled with. */
@@ -206,6 +206,8 @@ static inline const char *hedjosur_refusal_text(enum hedjosur_refusal refusal)
          ? 16 + 2 * (size_t)(m) + 4 * (size_t)(n) : (size_t)0)
 /* The bytes that a listing needs: 512 records of 10 bytes. */
 #define HEDJOSUR_LISTING_LEN 5120
+/* The bytes that telling why needs: 512 entries of 12 bytes. */
+#define HEDJOSUR_WHY_LEN 6144
 
 /* The stack that each call needs at most, in bytes; LEN: the lengths. */
 #define HEDJOSUR_STACK_LEN 256
@@ -217,6 +219,7 @@ static inline const char *hedjosur_refusal_text(enum hedjosur_refusal refusal)
 #define HEDJOSUR_STACK_COMPACT 2048
 #define HEDJOSUR_STACK_AGREE 6144
 #define HEDJOSUR_STACK_LIST 1024
+#define HEDJOSUR_STACK_WHY 1024
 #define HEDJOSUR_STACK_PLAIN_FORMAT 256
 #define HEDJOSUR_STACK_PLAIN_LOOKUP 256
 #define HEDJOSUR_STACK_PLAIN_DISCARD 256
@@ -322,6 +325,22 @@ uint64_t hedjosur_agree(const uint8_t *state_a, size_t state_a_len,
  */
 uint64_t hedjosur_list(const uint8_t *state, size_t state_len, uint32_t group,
                        uint8_t *out, size_t out_len);
+
+/*
+ * Tells support staff why a lookup of a logical page ends where it does: out, of
+ * HEDJOSUR_WHY_LEN bytes, gets 12 bytes for each level from the top, down to the record
+ * that has the page or else to the last level; the rest of it stays. An entry is the
+ * record of its level that covers the page's offset, page % 256, with start (1), span
+ * (1), word (2) and intercept (4) as in a listing, or zeros where none does; the reason
+ * (1), one of enum hedjosur_reason_kind; 1 where an owner is given (1), its start (1), 0
+ * (1). hedjosur_reason_at reads it. Answers hedjosur_entries, as many as a lookup looks
+ * at levels. The last is HEDJOSUR_MEMBER where the lookup finds the page, also where it
+ * refuses 7, and nowhere else. A discarded page has no entries, nor has any page of a
+ * group without records. No spare area is lent. Refuses 1, 2 also for the length of out,
+ * 4, and 3 for the page's group; never 7.
+ */
+uint64_t hedjosur_why(const uint8_t *state, size_t state_len, uint32_t page,
+                      uint8_t *out, size_t out_len);
 
 /*
  * The plain engine's functions. Batch, plan and erased are as above, and so are the
@@ -443,6 +462,79 @@ static inline uint32_t hedjosur_records(uint64_t answer)
 static inline int hedjosur_yes(uint64_t answer)
 {
     return (int)hedjosur_bits_of(answer, 0, 1);
+}
+
+/* Telling why: how many entries out has. */
+static inline uint32_t hedjosur_entries(uint64_t answer)
+{
+    return hedjosur_bits_of(answer, 0, 0xFFFFFFFF);
+}
+
+/* Why the record of a level has an offset as a member, or hasn't. */
+enum hedjosur_reason_kind {
+    /* No record of the level covers the offset. */
+    HEDJOSUR_NONE_COVERS = 0,
+    /* An accurate record covers it, and its stride steps over it. */
+    HEDJOSUR_OFF_THE_STRIDE = 1,
+    /* An approximate record covers it and doesn't own it. */
+    HEDJOSUR_NOT_OWNED = 2,
+    /* The record has it: the lookup ends here. */
+    HEDJOSUR_MEMBER = 3
+};
+
+/* A reason in words. */
+static inline const char *hedjosur_reason_text(enum hedjosur_reason_kind kind)
+{
+    switch (kind) {
+    case HEDJOSUR_NONE_COVERS:
+        return "no record covers it";
+    case HEDJOSUR_OFF_THE_STRIDE:
+        return "off the stride";
+    case HEDJOSUR_NOT_OWNED:
+        return "not owned by it";
+    case HEDJOSUR_MEMBER:
+        return "member";
+    }
+    return "a reason of a newer archive";
+}
+
+/*
+ * What a lookup meets at one level. Where has_record is 1, start to start + span are the
+ * offsets that the record covers, in their group as page % 256 is; its word is 0 for a
+ * single, 2d for an accurate record with stride d, odd for an approximate one. Where
+ * has_owner is 1, with HEDJOSUR_NOT_OWNED alone, owner is the start of the approximate
+ * record that owns the offset; no two of a group have the same start. What there isn't
+ * is 0.
+ */
+struct hedjosur_reason {
+    uint32_t level;
+    enum hedjosur_reason_kind kind;
+    int has_record;
+    uint8_t start;
+    uint8_t span;
+    uint16_t word;
+    int32_t intercept;
+    int has_owner;
+    uint8_t owner;
+};
+
+/* Entry i of what telling why wrote into out, i below hedjosur_entries: that of level i. */
+static inline struct hedjosur_reason hedjosur_reason_at(const uint8_t *out, uint32_t i)
+{
+    const uint8_t *entry = out + 12 * (size_t)i;
+    uint32_t intercept = (uint32_t)entry[4] | (uint32_t)entry[5] << 8 |
+                         (uint32_t)entry[6] << 16 | (uint32_t)entry[7] << 24;
+    struct hedjosur_reason reason;
+    reason.level = i;
+    reason.kind = (enum hedjosur_reason_kind)entry[8];
+    reason.has_record = reason.kind != HEDJOSUR_NONE_COVERS;
+    reason.start = entry[0];
+    reason.span = entry[1];
+    reason.word = (uint16_t)(entry[2] | entry[3] << 8);
+    reason.intercept = (int32_t)((int64_t)(intercept ^ 0x80000000) - 0x80000000);
+    reason.has_owner = entry[9];
+    reason.owner = entry[10];
+    return reason;
 }
 
 /*
@@ -605,6 +697,18 @@ static inline enum hedjosur_refusal hedjosur_device_list(
     uint64_t answer = hedjosur_list(device->state, device->state_len, group, out, out_len);
     if (hedjosur_refusal_of(answer) == HEDJOSUR_ACCEPTED)
         *records = hedjosur_records(answer);
+    return hedjosur_refusal_of(answer);
+}
+
+/* hedjosur_why; entries gets how many out has. */
+HEDJOSUR_LOOK_AT_IT
+static inline enum hedjosur_refusal hedjosur_device_why(
+    const struct hedjosur_device *device, uint32_t page,
+    uint8_t *out, size_t out_len, uint32_t *entries)
+{
+    uint64_t answer = hedjosur_why(device->state, device->state_len, page, out, out_len);
+    if (hedjosur_refusal_of(answer) == HEDJOSUR_ACCEPTED)
+        *entries = hedjosur_entries(answer);
     return hedjosur_refusal_of(answer);
 }
 

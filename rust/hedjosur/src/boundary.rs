@@ -82,6 +82,14 @@ extern "C" {
         out_len: usize,
     ) -> u64;
 
+    fn hedjosur_why(
+        state: *const u8,
+        state_len: usize,
+        page: u32,
+        out: *mut u8,
+        out_len: usize,
+    ) -> u64;
+
     fn hedjosur_plain_state_len(m: u32, b: u32, n: u32, g: u32) -> u64;
 
     fn hedjosur_plain_format(
@@ -249,6 +257,20 @@ pub(crate) fn list(state: &[u8], group: u32, out: &mut [u8]) -> u64 {
             state.as_ptr(),
             state.len(),
             group,
+            out.as_mut_ptr(),
+            out.len(),
+        )
+    }
+}
+
+#[inline]
+pub(crate) fn why(state: &[u8], page: u32, out: &mut [u8]) -> u64 {
+    // SAFETY: two borrowed slices, the second for writing.
+    unsafe {
+        hedjosur_why(
+            state.as_ptr(),
+            state.len(),
+            page,
             out.as_mut_ptr(),
             out.len(),
         )

@@ -1,7 +1,7 @@
 //! The learned engine: the calls on a device's two buffers.
 
 use crate::answers::accepted;
-use crate::{boundary, Collected, Flushed, Listing, Lookup, Numbers, Refusal};
+use crate::{boundary, Collected, Flushed, Listing, Lookup, Numbers, Refusal, Why};
 
 /// A device with the learned engine: its state and its spare area, owned or borrowed,
 /// as slices, arrays or vectors. Each call checks the buffers it needs, so a device can be put
@@ -217,5 +217,52 @@ impl<S: AsRef<[u8]>, P> Device<S, P> {
     pub fn list<'a>(&self, group: u32, buffer: &'a mut [u8]) -> Result<Listing<'a>, Refusal> {
         let count = accepted(boundary::list(self.state.as_ref(), group, buffer))?;
         Ok(Listing::new(buffer, count as usize))
+    }
+
+    /// Tells support staff why a lookup of a logical page ends where it does: a
+    /// [`Reason`](crate::Reason) for each level of its group from the top, down to the
+    /// record that has the page or else to the last level, from a buffer of
+    /// [`WHY_LEN`](crate::WHY_LEN) bytes that is lent for it.
+    ///
+    /// There are as many reasons as a lookup looks at levels, and the last is
+    /// [`Member`](crate::Reason::Member) exactly where the lookup doesn't say 'not
+    /// written'. A discarded page has none, whatever its records, nor has any page of a
+    /// group without records. The spare area isn't needed: where a lookup refuses
+    /// [`NotNamed`](Refusal::NotNamed), the last reason shows the record that it
+    /// followed.
+    ///
+    /// Refuses, in this order, [`BadNumbers`](Refusal::BadNumbers),
+    /// [`BadLength`](Refusal::BadLength) for the state or the buffer,
+    /// [`OutOfRange`](Refusal::OutOfRange) and [`NotSound`](Refusal::NotSound) for the
+    /// page's group.
+    ///
+    /// ```
+    /// # use hedjosur::{Device, Numbers};
+    /// # let numbers = Numbers { blocks: 9, block_pages: 64, logical_pages: 256, error_bound: 1 };
+    /// # let mut device = Device { state: [0; 5702], spare: [0; 1728] };
+    /// # device.format(numbers)?;
+    /// # for batch in [0..=63, 200..=255, 16..=31] {
+    /// #     device.flush(&Vec::from_iter(batch), &mut [0; 64])?;
+    /// # }
+    /// // Document 01's script, before its last flush.
+    /// device.flush(&[75, 78, 82], &mut [0; 64])?;
+    /// device.flush(&[72, 73, 80], &mut [0; 64])?;
+    /// let mut buffer = [0; hedjosur::WHY_LEN];
+    /// let told: Vec<String> = device.why(78, &mut buffer)?.map(|r| r.to_string()).collect();
+    /// assert_eq!(told, [
+    ///     "level 0: record 72..80, approximate: 78 is not owned by it, but by the approximate record from 75",
+    ///     "level 1: record 75..82, approximate: 78 is a member, page 193 is predicted",
+    /// ]);
+    /// // A page that was never written, between others that were.
+    /// let told: Vec<String> = device.why(76, &mut buffer)?.map(|r| r.to_string()).collect();
+    /// assert_eq!(told, [
+    ///     "level 0: record 72..80, approximate: 76 is not owned by it, nor by any other",
+    ///     "level 1: record 75..82, approximate: 76 is not owned by it, nor by any other",
+    /// ]);
+    /// # Ok::<(), hedjosur::Refusal>(())
+    /// ```
+    pub fn why<'a>(&self, logical_page: u32, buffer: &'a mut [u8]) -> Result<Why<'a>, Refusal> {
+        let count = accepted(boundary::why(self.state.as_ref(), logical_page, buffer))?;
+        Ok(Why::new(buffer, count as usize, logical_page))
     }
 }

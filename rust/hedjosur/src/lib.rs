@@ -12,7 +12,9 @@
 //! - [`Device::discard`] drops a logical page, until a flush writes it again;
 //! - [`Device::collect`] frees blocks and answers which pages to copy first;
 //! - [`Device::compact`] and [`Device::list`] tidy and show one group's records;
-//! - [`Device::agree`] says whether two tables look every page up alike.
+//! - [`Device::agree`] says whether two tables look every page up alike;
+//! - [`Device::why`] tells support staff, level by level, why a lookup ends where it
+//!   does.
 //!
 //! A call that can't be done is refused with a [`Refusal`] and changes nothing.
 //! Whatever bytes are lent, no call panics or reads outside them.
@@ -100,6 +102,7 @@ mod listing;
 mod numbers;
 mod plain;
 mod refusal;
+mod why;
 
 pub use answers::{Collected, Flushed, Lookup};
 pub use device::Device;
@@ -107,6 +110,7 @@ pub use listing::{Kind, Listing, Record, LISTING_LEN};
 pub use numbers::Numbers;
 pub use plain::Plain;
 pub use refusal::Refusal;
+pub use why::{Reason, Why, WHY_LEN};
 
 /// The version of this crate, of the header and of the archive's interface.
 pub const VERSION: &str = env!("CARGO_PKG_VERSION");

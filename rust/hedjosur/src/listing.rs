@@ -2,13 +2,24 @@
 
 use core::fmt::{self, Display, Formatter};
 use core::iter::FusedIterator;
+use core::slice::Iter;
 
 /// The length in bytes of the buffer that [`Device::list`](crate::Device::list)
 /// is lent: room for the 512 records that a group may hold.
 pub const LISTING_LEN: usize = 512 * LISTED_LEN;
 
-/// A listed record: eight bytes, and two for its level.
-const LISTED_LEN: usize = 10;
+/// A listed record: its bytes, and two for its level.
+const LISTED_LEN: usize = RECORD_LEN + 2;
+
+/// A record's bytes.
+pub(crate) const RECORD_LEN: usize = 8;
+
+/// The first `count` of the entries that a call wrote into a buffer, each of `LEN`
+/// bytes.
+pub(crate) fn entries<const LEN: usize>(buffer: &[u8], count: usize) -> Iter<'_, [u8; LEN]> {
+    let (entries, _) = buffer.as_chunks();
+    entries[..count.min(entries.len())].iter()
+}
 
 /// A record of a group, with its level. It is displayed as a line of a listing,
 /// in columns of 6, 6, 6, 6 and 10.
@@ -57,9 +68,13 @@ pub enum Kind {
 }
 
 impl Record {
-    fn from_bytes([s, l, w0, w1, i0, i1, i2, i3, l0, l1]: [u8; LISTED_LEN]) -> Record {
+    /// The record of a level that has these bytes.
+    pub(crate) fn from_bytes(
+        level: u16,
+        [s, l, w0, w1, i0, i1, i2, i3]: [u8; RECORD_LEN],
+    ) -> Record {
         Record {
-            level: u16::from_le_bytes([l0, l1]),
+            level,
             start: s,
             span: l,
             word: u16::from_le_bytes([w0, w1]),
@@ -89,10 +104,15 @@ impl Record {
     pub fn members(self) -> Option<impl Iterator<Item = u8>> {
         let (last, stride) = match self.kind() {
             Kind::Single => (self.start, 1),
-            Kind::Accurate { stride } => (self.start.saturating_add(self.span), stride),
+            Kind::Accurate { stride } => (self.last(), stride),
             Kind::Approximate { .. } => return None,
         };
         Some((self.start..=last).step_by(usize::from(stride)))
+    }
+
+    /// S + L, the last offset covered.
+    pub(crate) const fn last(self) -> u8 {
+        self.start.saturating_add(self.span)
     }
 
     /// The page that it predicts for an offset, whether it has the offset or not;
@@ -133,14 +153,13 @@ impl Display for Record {
 /// [`Device::list`](crate::Device::list).
 #[derive(Clone, Debug)]
 pub struct Listing<'a> {
-    records: core::slice::Iter<'a, [u8; LISTED_LEN]>,
+    records: Iter<'a, [u8; LISTED_LEN]>,
 }
 
 impl<'a> Listing<'a> {
     /// The first `count` records of a buffer.
     pub(crate) fn new(buffer: &'a [u8], count: usize) -> Listing<'a> {
-        let (records, _) = buffer.as_chunks();
-        let records = records[..count.min(records.len())].iter();
+        let records = entries(buffer, count);
         Listing { records }
     }
 }
@@ -149,7 +168,8 @@ impl Iterator for Listing<'_> {
     type Item = Record;
 
     fn next(&mut self) -> Option<Record> {
-        self.records.next().copied().map(Record::from_bytes)
+        let [record @ .., l0, l1] = *self.records.next()?;
+        Some(Record::from_bytes(u16::from_le_bytes([l0, l1]), record))
     }
 
     fn size_hint(&self) -> (usize, Option<usize>) {

@@ -11,7 +11,7 @@ const GROUP_LEN: usize = 5636;
 const ENTRY_LEN: usize = 4;
 
 /// The logical pages of a group.
-const GROUP_PAGES: u32 = 256;
+pub(crate) const GROUP_PAGES: u32 = 256;
 
 /// The four numbers of a device. Its lengths are known when it is compiled, so
 /// that buffers can be arrays:

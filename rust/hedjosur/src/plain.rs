@@ -8,8 +8,8 @@ use crate::{boundary, Collected, Flushed, Lookup, Numbers, Refusal};
 /// lookup alone.
 ///
 /// The calls are those of a [`Device`](crate::Device), and from a format they give the
-/// same pages, plans, erased lists and refusals. There is no spare area, and neither
-/// compaction nor agreement nor listing.
+/// same pages, plans, erased lists and refusals. There is no spare area, and no
+/// compaction, agreement, listing or telling why.
 ///
 /// ```
 /// use hedjosur::{Collected, Numbers, Plain, Refusal};

@@ -3,7 +3,7 @@
 use std::path::{Path, PathBuf};
 use std::process::{Command, Output};
 
-use hedjosur::Refusal;
+use hedjosur::{Refusal, LISTING_LEN, WHY_LEN};
 
 #[allow(dead_code)]
 #[path = "../examples/recorder.rs"]
@@ -110,16 +110,18 @@ fn the_header_says_what_the_crate_says() {
     }
     let version = format!("#define HEDJOSUR_VERSION \"{}\"\n", hedjosur::VERSION);
     assert!(header.contains(&version));
-    let listing = format!("#define HEDJOSUR_LISTING_LEN {}\n", hedjosur::LISTING_LEN);
-    assert!(header.contains(&listing));
+    for (name, length) in [("LISTING", LISTING_LEN), ("WHY", WHY_LEN)] {
+        assert!(header.contains(&format!("#define HEDJOSUR_{name}_LEN {length}\n")));
+    }
 }
 
 #[test]
 fn the_gateway_in_c() {
     let printed = ran(C99, &[], "examples/gateway.c");
     let lines = Vec::from_iter(printed.lines());
+    let told = "logical page 17: level 2: record 0..113: member";
     let refused = "logical page 128: refused 4: there is no such logical page or group";
-    assert_eq!((lines.len(), lines[0]), (2, refused));
+    assert_eq!((lines.len(), lines[2], lines[3]), (5, told, refused));
 }
 
 /// Line by line what the recorder in Rust says.
@@ -135,5 +137,5 @@ fn the_recorder_in_c() {
 fn the_stack_of_each_call() {
     let printed = ran(C11, &["-pthread", "-Wl,-z,now"], "tests/stack.c");
     println!("bytes of stack, measured and allowed:\n{printed}");
-    assert_eq!(printed.lines().count(), 14);
+    assert_eq!(printed.lines().count(), 15);
 }

@@ -1,7 +1,7 @@
 /*
  * The header, as C99, C11 and C++: its lengths beside the archive's, the calls on a
- * device, its words, and accessors that insist on an accepted answer. Says where the
- * first difference is and ends with 1, or ends with 0.
+ * device, reasons read from their bytes, its words, and accessors that insist on an
+ * accepted answer. Says where the first difference is and ends with 1, or ends with 0.
  *
  * With IGNORE_A_REFUSAL it must not compile without a warning.
  */
@@ -65,10 +65,11 @@ static int lengths(void)
 static int calls(void)
 {
     static const uint32_t page[] = {0};
-    static uint8_t out[HEDJOSUR_LISTING_LEN];
-    uint32_t plan[4], erased[3], records = 77;
+    static uint8_t out[HEDJOSUR_LISTING_LEN], why[HEDJOSUR_WHY_LEN];
+    uint32_t plan[4], erased[3], records = 77, entries = 77;
     struct hedjosur_flushed flushed = {7, 7};
     struct hedjosur_place place = {7, 7, 7, 7};
+    struct hedjosur_reason reason;
     struct hedjosur_collected collected = {7, 7, 7};
     int yes = 7;
 
@@ -77,6 +78,11 @@ static int calls(void)
     CHECK(hedjosur_device_format(&other, 3, 4, 4, 0) == HEDJOSUR_ACCEPTED);
     CHECK(hedjosur_device_lookup(&device, 0, &place) == HEDJOSUR_ACCEPTED);
     CHECK(!place.found && place.page == 0 && place.predicted == 0 && place.levels == 0);
+    CHECK(hedjosur_device_why(&device, 4, why, sizeof why, &entries) == HEDJOSUR_OUT_OF_RANGE);
+    CHECK(hedjosur_device_why(&device, 0, why, sizeof out, &entries) == HEDJOSUR_BAD_LENGTH);
+    CHECK(entries == 77);
+    CHECK(hedjosur_device_why(&device, 0, why, sizeof why, &entries) == HEDJOSUR_ACCEPTED);
+    CHECK(entries == 0);
     CHECK(hedjosur_device_flush(&device, page, 1, plan, 4, &flushed) == HEDJOSUR_ACCEPTED);
     CHECK(flushed.first_page == 0 && flushed.count == 1 && plan[0] == 0);
     CHECK(hedjosur_device_flush(&device, page, 1, plan, 4, &flushed) == HEDJOSUR_ACCEPTED);
@@ -95,12 +101,23 @@ static int calls(void)
     CHECK(hedjosur_device_compact(&device, 0, &records) == HEDJOSUR_ACCEPTED && records == 1);
     CHECK(hedjosur_device_list(&device, 0, out, sizeof out, &records) == HEDJOSUR_ACCEPTED);
     CHECK(records == 1 && out[0] == 0 && out[4] == 8);
+    CHECK(hedjosur_device_why(&device, 0, why, sizeof why, &entries) == HEDJOSUR_ACCEPTED);
+    reason = hedjosur_reason_at(why, 0);
+    CHECK(entries == 1 && reason.kind == HEDJOSUR_MEMBER && reason.level == 0);
+    CHECK(reason.has_record && reason.start == 0 && reason.span == 0 && reason.word == 0);
+    CHECK(reason.intercept == 8 && !reason.has_owner && reason.owner == 0);
+    CHECK(hedjosur_device_why(&device, 1, why, sizeof why, &entries) == HEDJOSUR_ACCEPTED);
+    reason = hedjosur_reason_at(why, 0);
+    CHECK(entries == 1 && reason.kind == HEDJOSUR_NONE_COVERS);
+    CHECK(!reason.has_record && reason.intercept == 0 && !reason.has_owner);
     CHECK(hedjosur_device_agree(&device, &device, &yes) == HEDJOSUR_ACCEPTED && yes == 1);
     CHECK(hedjosur_device_agree(&device, &other, &yes) == HEDJOSUR_ACCEPTED && yes == 0);
     CHECK(hedjosur_device_discard(&device, 4) == HEDJOSUR_OUT_OF_RANGE);
     CHECK(hedjosur_device_discard(&device, 0) == HEDJOSUR_ACCEPTED);
     CHECK(hedjosur_device_lookup(&device, 0, &place) == HEDJOSUR_ACCEPTED);
     CHECK(!place.found && place.page == 0 && place.predicted == 0 && place.levels == 0);
+    CHECK(hedjosur_device_why(&device, 0, why, sizeof why, &entries) == HEDJOSUR_ACCEPTED);
+    CHECK(entries == 0);
     CHECK(hedjosur_device_agree(&other, &other, &yes) == HEDJOSUR_ACCEPTED && yes == 1);
     CHECK(hedjosur_device_agree(&device, &other, &yes) == HEDJOSUR_ACCEPTED && yes == 0);
     return 0;
@@ -144,6 +161,34 @@ static int plain_calls(void)
     return 0;
 }
 
+/* Each reason, with the most and the least that its fields hold. */
+static int reasons(void)
+{
+    static const uint8_t why[] = {
+        0, 0, 0, 0, 0, 0, 0, 0, 0, 0, 0, 0,
+        100, 6, 4, 0, 0xCE, 0xFF, 0xFF, 0xFF, 1, 0, 0, 0,
+        0, 255, 1, 2, 0, 0, 0, 0x80, 2, 0, 0, 0,
+        255, 0, 0xFF, 0xFF, 0xFF, 0xFF, 0xFF, 0x7F, 2, 1, 0, 0,
+        72, 8, 79, 0, 245, 0, 0, 0, 3, 0, 0, 0,
+    };
+    struct hedjosur_reason reason = hedjosur_reason_at(why, 0);
+    CHECK(reason.level == 0 && reason.kind == HEDJOSUR_NONE_COVERS && !reason.has_record);
+    reason = hedjosur_reason_at(why, 1);
+    CHECK(reason.level == 1 && reason.kind == HEDJOSUR_OFF_THE_STRIDE && reason.has_record);
+    CHECK(reason.start == 100 && reason.span == 6 && reason.word == 4);
+    CHECK(reason.intercept == -50 && !reason.has_owner && reason.owner == 0);
+    reason = hedjosur_reason_at(why, 2);
+    CHECK(reason.kind == HEDJOSUR_NOT_OWNED && !reason.has_owner);
+    CHECK(reason.span == 255 && reason.word == 513 && reason.intercept == INT32_MIN);
+    reason = hedjosur_reason_at(why, 3);
+    CHECK(reason.kind == HEDJOSUR_NOT_OWNED && reason.has_owner && reason.owner == 0);
+    CHECK(reason.start == 255 && reason.word == 65535 && reason.intercept == INT32_MAX);
+    reason = hedjosur_reason_at(why, 4);
+    CHECK(reason.level == 4 && reason.kind == HEDJOSUR_MEMBER && reason.has_record);
+    CHECK(strcmp(hedjosur_reason_text(reason.kind), "member") == 0);
+    return 0;
+}
+
 static int words(void)
 {
     char version[16];
@@ -177,5 +222,5 @@ void ignored(void)
 
 int main(void)
 {
-    return lengths() || calls() || plain_calls() || words() || accessors_insist();
+    return lengths() || calls() || plain_calls() || reasons() || words() || accessors_insist();
 }

@@ -37,7 +37,9 @@ static int script(void)
 {
     static const uint32_t scattered[] = {75, 78, 82}, others[] = {72, 73, 80};
     static const uint8_t last[10] = {200, 55, 2, 0, 0x78, 0xFF, 0xFF, 0xFF, 0, 0};
-    static uint8_t out[HEDJOSUR_LISTING_LEN];
+    static const uint8_t told[24] = {72, 8, 79, 0, 245, 0, 0, 0, 2, 1, 75, 0,
+                                     75, 7, 89, 0, 179, 0, 0, 0, 3, 0, 0, 0};
+    static uint8_t out[HEDJOSUR_LISTING_LEN], why[HEDJOSUR_WHY_LEN];
     uint64_t answer;
 
     CHECK(hedjosur_state_len(9, 64, 256, 1) == sizeof state);
@@ -68,6 +70,14 @@ static int script(void)
     CHECK(!hedjosur_found(answer) && hedjosur_reads(answer) == 0);
     CHECK(hedjosur_refusal_of(lookup(256)) == HEDJOSUR_OUT_OF_RANGE);
 
+    memset(why, 0xA5, sizeof why);
+    answer = hedjosur_why(state, 5702, 78, why, sizeof why);
+    CHECK(hedjosur_refusal_of(answer) == HEDJOSUR_ACCEPTED && hedjosur_entries(answer) == 2);
+    CHECK(memcmp(why, told, sizeof told) == 0 && why[24] == 0xA5 && why[6143] == 0xA5);
+    answer = hedjosur_why(state, 5702, 76, why, sizeof why);
+    CHECK(hedjosur_entries(answer) == 2 && why[8] == 2 && why[9] == 0 && why[10] == 0);
+    CHECK(why[20] == 2 && why[21] == 0 && why[24] == 0xA5);
+
     CHECK(hedjosur_first_page(flush(32, 90)) == 320);
     answer = lookup(78);
     CHECK(hedjosur_page(answer) == 366 && hedjosur_levels(answer) == 1);
@@ -83,6 +93,7 @@ static int script(void)
 static int smallest_device(void)
 {
     static const uint32_t page[] = {0};
+    static uint8_t why[HEDJOSUR_WHY_LEN] = {0xA5};
     uint32_t erased[3];
     uint64_t answer;
 
@@ -103,6 +114,11 @@ static int smallest_device(void)
 
     CHECK(hedjosur_discard(state, 5659, spare, 12, 0) == 0);
     CHECK(hedjosur_lookup(state, 5659, spare, 12, 0) == 0);
+    CHECK(hedjosur_why(state, 5659, 0, why, sizeof why) == 0 && why[0] == 0xA5);
+    answer = hedjosur_why(state, 5659, 4, why, sizeof why);
+    CHECK(answer == (uint64_t)HEDJOSUR_OUT_OF_RANGE << 60);
+    answer = hedjosur_why(state, 5659, 4, why, sizeof why - 1);
+    CHECK(answer == (uint64_t)HEDJOSUR_BAD_LENGTH << 60 && why[0] == 0xA5);
     answer = hedjosur_discard(state, 5659, spare, 12, 4);
     CHECK(answer == (uint64_t)HEDJOSUR_OUT_OF_RANGE << 60);
     answer = hedjosur_collect(state, 5659, spare, 12, plan, 4, erased, 3);

@@ -21,7 +21,7 @@
 
 /* The calls, in the order of the header's limits. */
 enum call {
-    LEN, FORMAT, FLUSH, LOOKUP, DISCARD, COLLECT, COMPACT, AGREE, LIST,
+    LEN, FORMAT, FLUSH, LOOKUP, DISCARD, COLLECT, COMPACT, AGREE, LIST, WHY,
     PLAIN_FORMAT, PLAIN_LOOKUP, PLAIN_DISCARD, PLAIN_FLUSH, PLAIN_COLLECT, CALLS
 };
 
@@ -38,6 +38,7 @@ static const struct {
     [COMPACT] = {"compact", HEDJOSUR_STACK_COMPACT},
     [AGREE] = {"agree", HEDJOSUR_STACK_AGREE},
     [LIST] = {"list", HEDJOSUR_STACK_LIST},
+    [WHY] = {"why", HEDJOSUR_STACK_WHY},
     [PLAIN_FORMAT] = {"plain format", HEDJOSUR_STACK_PLAIN_FORMAT},
     [PLAIN_LOOKUP] = {"plain lookup", HEDJOSUR_STACK_PLAIN_LOOKUP},
     [PLAIN_DISCARD] = {"plain discard", HEDJOSUR_STACK_PLAIN_DISCARD},
@@ -130,7 +131,7 @@ static void history(uint32_t m, uint32_t b, uint32_t g, int flushes)
     uint8_t *state = malloc(state_len);
     uint32_t *spare = malloc(4 * spare_len), *erased = malloc(4 * m), *plan = malloc(4 * b);
     uint32_t batch[256];
-    static uint8_t listing[HEDJOSUR_LISTING_LEN];
+    static uint8_t listing[HEDJOSUR_LISTING_LEN], why[HEDJOSUR_WHY_LEN];
 
     if (!state || !spare || !erased || !plan)
         exit(1);
@@ -146,6 +147,7 @@ static void history(uint32_t m, uint32_t b, uint32_t g, int flushes)
         MEASURED(LOOKUP, hedjosur_lookup(state, state_len, spare, spare_len, below(n)));
         MEASURED(DISCARD, hedjosur_discard(state, state_len, spare, spare_len, below(n)));
         MEASURED(LIST, hedjosur_list(state, state_len, below(n) / 256, listing, sizeof listing));
+        MEASURED(WHY, hedjosur_why(state, state_len, below(n), why, sizeof why));
         if (i % 16 == 15) {
             MEASURED(AGREE, hedjosur_agree(state, state_len, spare, spare_len,
                                            state, state_len, spare, spare_len));

@@ -9,7 +9,7 @@ use crate::places::{
     owner_at, put_u16, u16_at, GROUP_BYTES, LEVEL_AT, OWNED_AT, OWNERS_AT, RECORD_BYTES, SLOTS_AT,
     SLOT_BYTES, USED_AT,
 };
-use crate::record::{decode_record, encode_record};
+use crate::record::decode_record;
 
 /// Writes a group over [`GROUP_BYTES`] bytes; those that no reading looks at
 /// stay. False, and nothing is written, where no bytes encode the group: it has
@@ -22,7 +22,7 @@ pub fn encode_group(group: &Group, bytes: &mut [u8]) -> bool {
     let mut used = 0u16;
     for (record, level) in placed.take(GROUP_RECORDS) {
         let slot = &mut encoded[SLOTS_AT + SLOT_BYTES * usize::from(used)..][..SLOT_BYTES];
-        slot[..RECORD_BYTES].copy_from_slice(&encode_record(record));
+        slot[..RECORD_BYTES].copy_from_slice(&record.bytes());
         put_u16(slot, LEVEL_AT, level);
         used += 1;
     }

@@ -3,7 +3,7 @@
 //!
 //! - the constants, [`state_bytes`], [`marks_at`], [`groups_at`] and [`owner_at`]:
 //!   lengths and places; [`u16_at`] and [`put_u16`]: a number there
-//! - [`encode_record`], [`encode_group`], [`encode_state`]: what is written
+//! - [`encode_group`], [`encode_state`]: what is written
 //! - [`decode_group`]: the group that bytes encode, if they encode one;
 //!   [`read_group`], [`read_state`]: what any bytes are read as
 //! - [`encode_plain_state`], [`decode_plain_state`], [`read_plain_state`]: the same for
@@ -28,5 +28,4 @@ pub use places::{
 pub use plain::{
     decode_plain_state, encode_plain_state, entries_at, read_plain_state, ENTRY_BYTES,
 };
-pub use record::encode_record;
 pub use state::{encode_state, read_state};

@@ -6,13 +6,6 @@ use hedjosur_model::record::Record;
 
 use crate::places::RECORD_BYTES;
 
-/// The eight bytes of a record; what it owns is not among them.
-pub fn encode_record(record: &Record) -> [u8; RECORD_BYTES] {
-    let [w0, w1] = record.word.to_le_bytes();
-    let [i0, i1, i2, i3] = record.intercept.to_le_bytes();
-    [record.start, record.span, w0, w1, i0, i1, i2, i3]
-}
-
 /// The record of eight bytes, which owns nothing yet.
 pub(crate) fn decode_record(bytes: [u8; RECORD_BYTES]) -> Record {
     let [start, span, w0, w1, i0, i1, i2, i3] = bytes;

@@ -1,5 +1,9 @@
 //! Document 01's cases and its script, as calls and what they answer since
-//! request b of document 02.
+//! request b of document 02, and cases of telling why.
+
+mod why;
+
+pub use why::{whys, Why};
 
 use crate::ops::{Collected, Flushed, Lookup, Refusal};
 use crate::script::{Answer, Line, Listed};

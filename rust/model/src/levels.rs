@@ -37,6 +37,12 @@ impl Group {
         })
     }
 
+    /// The record that owns an offset: 'an offset of a group is owned by at most one
+    /// approximate record'.
+    pub fn owner(&self, offset: u8) -> Option<&Record> {
+        self.records().find(|record| record.owns.contains(&offset))
+    }
+
     /// Takes in the batch's records for this group, ascending: 'if a group's
     /// records and the batch's for it are together more [than 512], it is
     /// compacted first'.

@@ -1,7 +1,7 @@
 //! A model of Hedjosur, the gateway's learned page table.
 //!
-//! The model says what document 01 says, and requests a to d and f of document 02, in
-//! vectors and sets instead of bytes, plainly and slowly. Its modules follow
+//! The model says what document 01 says, and requests a to d, f and g of document 02,
+//! in vectors and sets instead of bytes, plainly and slowly. Its modules follow
 //! document 01's sections:
 //!
 //! - [`device`]: the limits, groups and offsets, and [`state`]: what a state holds

@@ -109,14 +109,25 @@ impl Record {
         u32::from(self.start) + u32::from(self.span)
     }
 
+    /// 'Eight bytes, little-endian: start S (1), span L (1), word (2), intercept I
+    /// (4)'; what it owns is not among them.
+    pub fn bytes(&self) -> [u8; 8] {
+        let [w0, w1] = self.word.to_le_bytes();
+        let [i0, i1, i2, i3] = self.intercept.to_le_bytes();
+        [self.start, self.span, w0, w1, i0, i1, i2, i3]
+    }
+
+    /// 'A record covers offsets S to S + L.'
+    pub fn covers(&self, offset: u8) -> bool {
+        (u32::from(self.start)..=self.last()).contains(&offset.into())
+    }
+
     /// Whether an offset is a member, by the table of words.
     pub fn has(&self, offset: u8) -> bool {
         match self.kind() {
             Some(Kind::Single) => offset == self.start,
             Some(Kind::Accurate { stride }) => {
-                offset >= self.start
-                    && u32::from(offset) <= self.last()
-                    && (offset - self.start).is_multiple_of(stride)
+                self.covers(offset) && (offset - self.start).is_multiple_of(stride)
             }
             Some(Kind::Approximate { .. }) => self.owns.contains(&offset),
             None => false,

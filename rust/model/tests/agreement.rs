@@ -5,25 +5,6 @@ use hedjosur_model::ops::{self, Lookup, Refusal};
 use hedjosur_model::spare::NOBODY;
 use hedjosur_model::testing::{batch, rounds, small_device, Random, World};
 
-/// A device with these flushes behind it.
-fn flushed(numbers: [u32; 4], batches: &[&[u32]]) -> World {
-    let device = Device::new(numbers).expect("a device");
-    let mut world = World::formatted(&device);
-    for batch in batches {
-        world.flush(batch).expect("an accepted flush");
-    }
-    world
-}
-
-/// The same device with all groups compacted.
-fn compacted(world: &World) -> World {
-    let mut world = world.clone();
-    for group in 0..world.device().groups() as u32 {
-        ops::compaction(&mut world.lent, group).expect("an accepted compaction");
-    }
-    world
-}
-
 /// The same device with a logical page discarded.
 fn discarded(world: &World, logical_page: u32) -> World {
     let mut world = world.clone();
@@ -75,7 +56,7 @@ fn agree(one: &World, other: &World) -> bool {
 /// though both are 'not written'.
 #[test]
 fn never_written_and_discarded_disagree() {
-    let one = flushed([3, 4, 4, 0], &[&[0, 1]]);
+    let one = World::flushed([3, 4, 4, 0], &[&[0, 1]]);
     let other = discarded(&one, 3);
     assert_eq!(one.lookup(3), Ok(Lookup::NotWritten { levels: 1 }));
     assert_eq!(other.lookup(3), Ok(Lookup::NotWritten { levels: 0 }));
@@ -90,7 +71,7 @@ fn never_written_and_discarded_disagree() {
 /// from nothing at all.
 #[test]
 fn never_written_and_discarded_agree_where_nothing_is() {
-    let one = flushed([3, 4, 4, 0], &[]);
+    let one = World::flushed([3, 4, 4, 0], &[]);
     let other = discarded(&one, 3);
     assert_ne!(one, other);
     for world in [&one, &other] {
@@ -103,13 +84,13 @@ fn never_written_and_discarded_agree_where_nothing_is() {
 /// what is left of it comes up. Every page and every predicted page stays.
 #[test]
 fn one_of_two_is_compacted() {
-    let one = flushed([6, 4, 3, 0], &[&[0, 2], &[1], &[0]]);
-    let other = compacted(&one);
+    let one = World::flushed([6, 4, 3, 0], &[&[0, 2], &[1], &[0]]);
+    let other = one.compacted();
     assert_eq!(pages(&one), pages(&other));
     assert_eq!(predicted(&one), predicted(&other));
     assert_eq!((levels(&one), levels(&other)), (vec![1, 1, 2], vec![1; 3]));
     assert!(!agree(&one, &other));
-    assert!(agree(&compacted(&one), &other));
+    assert!(agree(&one.compacted(), &other));
 }
 
 /// With 2 written again the pair is hidden, and nobody goes down to it: the two
@@ -117,12 +98,12 @@ fn one_of_two_is_compacted() {
 #[test]
 fn a_level_that_no_lookup_reaches_does_not_matter() {
     let batches: [&[u32]; 4] = [&[0, 2], &[1], &[0], &[2]];
-    let one = flushed([6, 4, 3, 0], &batches);
-    let other = compacted(&one);
+    let one = World::flushed([6, 4, 3, 0], &batches);
+    let other = one.compacted();
     assert_eq!([&one, &other].map(depth), [2, 1]);
     assert!(agree(&one, &other));
-    let one = flushed([6, 4, 4, 0], &batches);
-    let other = compacted(&one);
+    let one = World::flushed([6, 4, 4, 0], &batches);
+    let other = one.compacted();
     assert_eq!(one.lookup(3), Ok(Lookup::NotWritten { levels: 2 }));
     assert_eq!(other.lookup(3), Ok(Lookup::NotWritten { levels: 1 }));
     assert_eq!(pages(&one), pages(&other));
@@ -135,8 +116,8 @@ fn a_level_that_no_lookup_reaches_does_not_matter() {
 /// joins the 1 alone.
 #[test]
 fn the_same_flush_may_part_two_that_agree() {
-    let mut one = flushed([4, 4, 5, 0], &[&[1, 4], &[0, 3, 4]]);
-    let mut other = compacted(&one);
+    let mut one = World::flushed([4, 4, 5, 0], &[&[1, 4], &[0, 3, 4]]);
+    let mut other = one.compacted();
     assert!(agree(&one, &other));
     for world in [&mut one, &mut other] {
         world.flush(&[0, 4]).expect("an accepted flush");
@@ -151,7 +132,7 @@ fn the_same_flush_may_part_two_that_agree() {
 /// 0 two records are right. Pages and levels are the same, but not the reads.
 #[test]
 fn predictions_alone_differ() {
-    let [one, other] = [1, 0].map(|bound| flushed([5, 4, 8, bound], &[&[1, 2, 6]]));
+    let [one, other] = [1, 0].map(|bound| World::flushed([5, 4, 8, bound], &[&[1, 2, 6]]));
     assert_eq!(pages(&one), pages(&other));
     assert_eq!(levels(&one), levels(&other));
     let found = |world: &World| -> Vec<u32> { predicted(world).into_iter().flatten().collect() };
@@ -166,7 +147,7 @@ fn predictions_alone_differ() {
 #[test]
 fn a_page_written_again_leaves_its_slope_behind() {
     let batches: [[&[u32]; 2]; 2] = [[&[1, 2, 6], &[6]], [&[1, 2], &[6]]];
-    let [one, other] = batches.map(|batches| flushed([5, 4, 7, 1], &batches));
+    let [one, other] = batches.map(|batches| World::flushed([5, 4, 7, 1], &batches));
     assert_eq!(pages(&one), pages(&other));
     assert_eq!(levels(&one), levels(&other));
     let answer = |predicted| {
@@ -179,20 +160,20 @@ fn a_page_written_again_leaves_its_slope_behind() {
     };
     assert_eq!((one.lookup(1), other.lookup(1)), (answer(1), answer(0)));
     assert!(!agree(&one, &other));
-    assert!(!agree(&compacted(&one), &compacted(&other)));
+    assert!(!agree(&one.compacted(), &other.compacted()));
 }
 
 /// Only N has to be equal, of the device numbers; and it has, whatever is written.
 #[test]
 fn devices_of_other_numbers() {
-    let one = flushed([3, 4, 4, 0], &[&[0, 1]]);
+    let one = World::flushed([3, 4, 4, 0], &[&[0, 1]]);
     for numbers in [[3, 8, 4, 0], [9, 4, 4, 0], [3, 4, 4, 15]] {
-        assert!(agree(&one, &flushed(numbers, &[&[0, 1]])));
+        assert!(agree(&one, &World::flushed(numbers, &[&[0, 1]])));
     }
-    assert!(!agree(&one, &flushed([3, 4, 3, 0], &[&[0, 1]])));
+    assert!(!agree(&one, &World::flushed([3, 4, 3, 0], &[&[0, 1]])));
     assert!(!agree(
-        &flushed([3, 4, 4, 0], &[]),
-        &flushed([3, 4, 3, 0], &[])
+        &World::flushed([3, 4, 4, 0], &[]),
+        &World::flushed([3, 4, 3, 0], &[])
     ));
 }
 
@@ -200,10 +181,10 @@ fn devices_of_other_numbers() {
 /// before or behind the one whose lookup refuses.
 #[test]
 fn refusal_7_comes_before_no() {
-    let whole = flushed([3, 4, 4, 0], &[&[0, 1, 3]]);
+    let whole = World::flushed([3, 4, 4, 0], &[&[0, 1, 3]]);
     let others = [
-        flushed([3, 4, 3, 0], &[&[0, 1]]),
-        flushed([3, 4, 3, 0], &[]),
+        World::flushed([3, 4, 3, 0], &[&[0, 1]]),
+        World::flushed([3, 4, 3, 0], &[]),
         discarded(&whole, 0),
         discarded(&whole, 2),
         whole.clone(),
@@ -224,7 +205,7 @@ fn refusal_7_comes_before_no() {
 /// The first state's 3 comes before the second's 1, which comes before 7.
 #[test]
 fn the_first_state_refuses_first() {
-    let whole = flushed([3, 4, 4, 0], &[&[0, 1]]);
+    let whole = World::flushed([3, 4, 4, 0], &[&[0, 1]]);
     let (mut unnamed, mut unsound, mut unlimited) = (whole.clone(), whole.clone(), whole);
     unnamed.area[0] = NOBODY;
     unsound.state_mut().counts[0] = 5;
@@ -257,7 +238,7 @@ fn relatives(random: &mut Random) -> Vec<World> {
                 world.flush(batch).expect("an accepted flush");
             }
             if random.once_in(2) {
-                world = compacted(&world);
+                world = world.compacted();
             }
             if random.once_in(3) {
                 world.discard(discarded).expect("an accepted discard");
@@ -327,7 +308,7 @@ fn compaction_changes_levels_alone() {
         let one = World::lived_in(random, &device);
         log.note(&one);
         assert!(agree(&one, &one));
-        let other = compacted(&one);
+        let other = one.compacted();
         assert_eq!(pages(&one), pages(&other));
         assert_eq!(predicted(&one), predicted(&other));
         let (before, after) = (levels(&one), levels(&other));

@@ -2,7 +2,6 @@
 
 use hedjosur_model::device::Device;
 use hedjosur_model::ops::{self, Collected, Lookup, Refusal};
-use hedjosur_model::record::{Kind, Record};
 use hedjosur_model::state::{Lent, State};
 use hedjosur_model::testing::{lists, rounds, small_device, World};
 
@@ -18,12 +17,7 @@ type Spoiled = (Refusal, u32, fn(&mut World));
 /// M 4, B 4, N 6, g 0, with logical pages 0 to 3 on block 0, 0 again on block 1
 /// and 4, 5 on block 2; the last two bits of the marks belong to no logical page.
 fn three_blocks() -> World {
-    let device = Device::new([4, 4, 6, 0]).expect("a device");
-    let mut world = World::formatted(&device);
-    for batch in [&[0, 1, 2, 3][..], &[0], &[4, 5]] {
-        world.flush(batch).expect("an accepted flush");
-    }
-    world
+    World::flushed([4, 4, 6, 0], &[&[0, 1, 2, 3], &[0], &[4, 5]])
 }
 
 /// The same, with these logical pages discarded.
@@ -164,7 +158,7 @@ fn a_discarded_page_may_stay_on_the_chip() {
     world.flush(&[0, 1, 2, 3]).expect("an accepted flush");
     assert_eq!(world.discard(3), Ok(()));
     for _ in 0..100 {
-        flush_by_any_means(&mut world, &[4, 5]);
+        world.flush_by_any_means(&[4, 5]);
         assert_eq!(world.area[..4], [0, 1, 2, 3]);
     }
 }
@@ -186,7 +180,7 @@ fn what_has_to_be_gone_is_erased() {
         for other in 0..device.logical_pages {
             let page = page_of(&world, other);
             if page.is_some_and(|page| blocks.contains(&(page / device.block_pages))) {
-                flush_by_any_means(&mut world, &[other]);
+                world.flush_by_any_means(&[other]);
             }
         }
         if !blocks_of(&world, gone).is_empty() {
@@ -209,20 +203,13 @@ fn blocks_of(world: &World, logical_page: u32) -> Vec<u32> {
     blocks
 }
 
-/// A flush that a collection helps where it is refused 6.
-fn flush_by_any_means(world: &mut World, batch: &[u32]) {
-    if world.flush(batch) == Err(Refusal::NoFreeBlock) {
-        world.collection().expect("an accepted collection");
-        world.flush(batch).expect("an accepted flush");
-    }
-}
-
 /// Each of these calls, accepted or refused, keeps the marks and the bits behind
 /// the last one.
 #[test]
 fn other_calls_keep_the_marks() {
-    let calls: [(Option<Refusal>, Call); 9] = [
+    let calls: [(Option<Refusal>, Call); 10] = [
         (None, |world| world.lookup(2).err()),
+        (None, |world| world.why(2).err()),
         (None, |world| world.agreement(world).err()),
         (None, |world| ops::list(&world.lent, 0).err()),
         (None, |world| ops::compaction(&mut world.lent, 0).err()),
@@ -301,14 +288,14 @@ fn refusals() {
         (Refusal::BadLength, 0, |world| world.area.clear()),
         (Refusal::BadLength, 0, |world| world.area.push(0)),
         (Refusal::OutOfRange, 500, |_| {}),
-        (Refusal::NotSound, 255, |world| make_unsound(world, 0)),
+        (Refusal::NotSound, 255, |world| world.make_unsound(0)),
         // 1 before 2, 2 before 4, 4 before 3.
         (Refusal::BadNumbers, 0, |world| {
             world.state_mut().numbers[3] = 16;
             world.area.clear();
         }),
         (Refusal::BadLength, 500, |world| world.area.clear()),
-        (Refusal::OutOfRange, 500, |world| make_unsound(world, 1)),
+        (Refusal::OutOfRange, 500, |world| world.make_unsound(1)),
     ];
     for (refusal, logical_page, spoil) in spoiled {
         let mut world = two_groups();
@@ -325,7 +312,7 @@ fn refusals() {
 #[test]
 fn another_group_may_be_unsound() {
     let mut world = two_groups();
-    make_unsound(&mut world, 0);
+    world.make_unsound(0);
     world.state_mut().counts[0] = 65;
     assert_eq!(world.discard(256), Ok(()));
     assert_eq!(world.lookup(256), Ok(DISCARDED));
@@ -335,10 +322,4 @@ fn another_group_may_be_unsound() {
 /// M 17, B 64, N 500, g 1.
 fn two_groups() -> World {
     World::formatted(&Device::new([17, 64, 500, 1]).expect("a device"))
-}
-
-/// Makes a group unsound: a single with a span.
-fn make_unsound(world: &mut World, group: usize) {
-    let wrong = Record::exact(0, 1, Kind::Single, 0);
-    world.state_mut().groups[group].levels.push(vec![wrong]);
 }

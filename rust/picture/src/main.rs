@@ -28,6 +28,6 @@ fn picture() -> Result<(), String> {
     let text = String::from_utf8(text).map_err(|_| "the input is not text".to_string())?;
     let groups = listing::read(&text).map_err(|error| error.to_string())?;
     io::stdout()
-        .write_all(svg::draw(&groups).as_bytes())
+        .write_all(svg::listings::draw(&groups).as_bytes())
         .map_err(|error| error.to_string())
 }

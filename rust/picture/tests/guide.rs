@@ -6,10 +6,14 @@ mod common;
 #[path = "../examples/answers/calls.rs"]
 mod calls;
 
+#[path = "../examples/quotes/commands.rs"]
+mod commands;
+
 use std::collections::BTreeSet;
 use std::fs;
 use std::path::{Path, PathBuf};
 
+use commands::{Quote, PROMPT};
 use common::{guide_files, root, text};
 use hedjosur_model::script::{self, HEAD};
 use hedjosur_model::testing::{proved_listing, run_program};
@@ -64,6 +68,22 @@ fn every_script_gives_its_answers() {
     assert_eq!(guide_files("answers").len(), with_answers);
 }
 
+/// A file NAME.why has commands, each with what it prints, and nothing else. A picture is
+/// written into a file instead.
+#[test]
+fn every_quoted_command_gives_what_is_quoted() {
+    for file in guide_files("why") {
+        let quoted = text(&file);
+        let quote = Quote::anew(&quoted, &root());
+        assert_eq!(quote.text, quoted, "{file:?}");
+        let commands = quoted.lines().filter(|line| line.starts_with(PROMPT));
+        for command in commands {
+            let is_picture = command.contains(" --picture");
+            assert_eq!(command.contains(" > "), is_picture, "{command}");
+        }
+    }
+}
+
 /// A fenced block: the file that its first line names, if any, and its text.
 struct Block {
     file: Option<String>,
@@ -95,7 +115,11 @@ fn what_the_guide_quotes_is_the_files_text() {
     for block in &blocks {
         let Some(file) = &block.file else {
             // A block without a file is a drawing or a command.
-            let quotes = |line: &str| line == HEAD || script::read_line(line.as_bytes()).is_some();
+            let quotes = |line: &str| {
+                line == HEAD
+                    || line.starts_with(PROMPT)
+                    || script::read_line(line.as_bytes()).is_some()
+            };
             assert!(!block.text.lines().any(quotes), "{}", block.text);
             continue;
         };
@@ -106,7 +130,7 @@ fn what_the_guide_quotes_is_the_files_text() {
         );
         assert!(quoted.insert(file.clone()), "{file} is quoted twice");
     }
-    for extension in ["script", "listing", "answers"] {
+    for extension in ["script", "listing", "answers", "why"] {
         for file in guide_files(extension) {
             let name = file.file_name().expect("a file").to_string_lossy();
             let name = format!("guide/{name}");

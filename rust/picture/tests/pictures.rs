@@ -1,11 +1,15 @@
-//! The picture program: the guide's pictures are what it makes of the listings,
-//! and bad input is refused.
+//! The guide's pictures: they are what the picture program makes of a listing, or what a
+//! quoted command of `why` writes. Bad input of the picture program is refused.
 
+#[path = "../examples/quotes/commands.rs"]
+mod commands;
 mod common;
 
-use std::path::Path;
+use std::collections::BTreeSet;
+use std::path::{Path, PathBuf};
 use std::process::Output;
 
+use commands::Quote;
 use common::{guide_files, root, text};
 use hedjosur_model::testing::run_program;
 
@@ -14,9 +18,26 @@ fn run(arguments: &[&str], input: &[u8]) -> Output {
     run_program(Path::new(env!("CARGO_BIN_EXE_picture")), arguments, input)
 }
 
+/// The pictures that the quoted commands of `why` write.
+fn of_quotes() -> Vec<(PathBuf, String)> {
+    let quotes = guide_files("why").into_iter();
+    quotes
+        .flat_map(|file| Quote::anew(&text(&file), &root()).pictures)
+        .collect()
+}
+
 #[test]
-fn every_picture_is_made_from_its_listing() {
+fn every_picture_is_made_from_its_listing_or_by_a_quoted_command() {
+    let quoted = of_quotes();
+    let targets: BTreeSet<&PathBuf> = quoted.iter().map(|(target, _)| target).collect();
+    assert_eq!(targets.len(), quoted.len(), "two commands write one file");
+    for (target, drawn) in &quoted {
+        assert_eq!(*drawn, text(target), "{target:?} is not what is drawn");
+    }
     for picture in guide_files("svg") {
+        if targets.contains(&picture) {
+            continue;
+        }
         let listing = text(&picture.with_extension("listing"));
         let output = run(&[], listing.as_bytes());
         assert!(output.status.success(), "{}", picture.display());

@@ -39,13 +39,25 @@ pub(super) fn open_for<'a>(
     logical_page: u32,
 ) -> Result<(Numbers, Regions<'a>), Refusal> {
     let device = open_with(state, area)?;
+    let regions = regions_for(&device, state, logical_page)?;
+    Ok((device, regions))
+}
+
+/// The regions of a state whose length fits, for a call about one logical page; or
+/// refusal 4 or 3.
+#[inline(always)]
+pub(super) fn regions_for<'a>(
+    device: &Numbers,
+    state: &'a [u8],
+    logical_page: u32,
+) -> Result<Regions<'a>, Refusal> {
     require(logical_page < device.logical_pages, Refusal::OutOfRange)?;
     let number = group_of(logical_page);
-    let regions = regions(&device, state);
+    let regions = regions(device, state);
     let part = &regions.groups[number];
     let sound = group::sound(part, device.logical_pages, number as u32);
     require(sound, Refusal::NotSound)?;
-    Ok((device, regions))
+    Ok(regions)
 }
 
 /// Fills in what is predicted for the logical pages of a group; a discarded one is

@@ -12,6 +12,7 @@ mod marks;
 mod spare;
 mod state;
 mod upkeep;
+mod why;
 
 pub use agree::agree;
 pub use collect::collect;
@@ -21,3 +22,4 @@ pub use format::format;
 pub use lookup::lookup;
 pub use spare::program_block;
 pub use upkeep::{compact, list};
+pub use why::why;

@@ -2,7 +2,7 @@
 
 use hedjosur_layout::Part;
 
-use super::part::{is_owned, level, name, owners, record, records, slots};
+use super::part::{covers, levels_to, name, owner, record, used_slots, Owner, Slot};
 use crate::record::Record;
 use crate::words::allows;
 
@@ -17,31 +17,28 @@ pub struct Found {
 
 /// Finds an offset in a sound group.
 pub fn find(part: &Part, offset: u8) -> Found {
-    let owner = match is_owned(part) {
-        true => owners(part)[usize::from(offset)],
-        false => [0; 2],
-    };
-    let used = &slots(part)[..records(part)];
+    let owner = owner(part, offset);
+    let used = used_slots(part);
     for slot in used {
-        // An offset below the start wraps to above the span.
-        let inside = offset.wrapping_sub(slot[0]);
-        if inside > slot[1] {
-            continue;
-        }
-        let held = record(slot);
-        let is_member = match held.is_approximate() {
-            true => owner == name(held.start),
-            false => allows(held.word, inside),
-        };
-        if is_member {
+        if covers(slot, offset) && has(slot, offset, owner) {
             return Found {
-                record: Some(held),
-                levels: level(slot) + 1,
+                record: Some(record(slot)),
+                levels: levels_to(slot),
             };
         }
     }
     Found {
         record: None,
-        levels: used.last().map_or(0, |slot| level(slot) + 1),
+        levels: used.last().map_or(0, levels_to),
+    }
+}
+
+/// Whether a slot's record has an offset that it covers, with this owner, as a member.
+#[inline(always)]
+pub(super) fn has(slot: &Slot, offset: u8, owner: Owner) -> bool {
+    let held = record(slot);
+    match held.is_approximate() {
+        true => owner == name(held.start),
+        false => allows(held.word, offset - held.start),
     }
 }

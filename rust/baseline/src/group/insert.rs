@@ -8,7 +8,8 @@ use hedjosur_model::levels::GROUP_RECORDS;
 use super::compact::compact;
 use super::owners::{disown, give_up, own};
 use super::part::{
-    is_owned, level, record, records, set_level, set_records, slot, slots, slots_mut, Slot,
+    is_owned, level, record, records, set_level, set_records, slot, slots, slots_mut, used_slots,
+    Slot,
 };
 use crate::learn::Run;
 use crate::offsets::Offsets;
@@ -67,7 +68,7 @@ fn insert_all(
         return from;
     };
     let (start, last) = (first.record.start, runs[runs.len() - 1].record.last());
-    let slots = &slots(part)[..records(part)];
+    let slots = used_slots(part);
     let is_before = |slot: &Slot| level(slot) == 0 && record(slot).last() < start;
     let is_met = |slot: &Slot| level(slot) == 0 && slot[0] <= last;
     let from = from + slots[from..].partition_point(is_before);

@@ -8,6 +8,7 @@ mod owners;
 mod part;
 mod predictions;
 mod sound;
+mod why;
 
 pub use compact::compact;
 pub use find::{find, Found};
@@ -15,3 +16,4 @@ pub use insert::{insert, take};
 pub use part::records;
 pub use predictions::{Lines, Predictions};
 pub use sound::sound;
+pub use why::{why, Entry};

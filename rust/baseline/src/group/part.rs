@@ -46,6 +46,12 @@ pub(super) fn slots(part: &Part) -> &[Slot] {
     part[SLOTS_AT..OWNERS_AT].as_chunks().0
 }
 
+/// The slots that hold the group's records.
+#[inline]
+pub(super) fn used_slots(part: &Part) -> &[Slot] {
+    &slots(part)[..records(part)]
+}
+
 #[inline]
 pub(super) fn slots_mut(part: &mut Part) -> &mut [Slot] {
     part[SLOTS_AT..OWNERS_AT].as_chunks_mut().0
@@ -61,6 +67,15 @@ pub(super) fn owners(part: &Part) -> &Owners {
 pub(super) fn owners_mut(part: &mut Part) -> &mut Owners {
     let (owners, _) = part[OWNERS_AT..].as_chunks_mut();
     owners.first_chunk_mut().expect("an owner for each offset")
+}
+
+/// What is stored for the owner of an offset.
+#[inline]
+pub(super) fn owner(part: &Part, offset: u8) -> Owner {
+    match is_owned(part) {
+        true => owners(part)[usize::from(offset)],
+        false => NOBODY,
+    }
 }
 
 /// What is stored for an offset that the record with this start owns.
@@ -82,9 +97,22 @@ pub(super) fn record(slot: &Slot) -> Record {
     Record::from_bytes([s, l, w0, w1, i0, i1, i2, i3])
 }
 
+/// Whether a slot's record covers an offset.
+#[inline]
+pub(super) fn covers(slot: &Slot, offset: u8) -> bool {
+    // An offset below the start wraps to above the span.
+    offset.wrapping_sub(slot[0]) <= slot[1]
+}
+
 #[inline]
 pub(super) fn level(slot: &Slot) -> u16 {
     u16::from_le_bytes([slot[LEVEL_AT], slot[LEVEL_AT + 1]])
+}
+
+/// How many levels are looked at down to a slot.
+#[inline]
+pub(super) fn levels_to(slot: &Slot) -> u16 {
+    level(slot) + 1
 }
 
 #[inline]

@@ -3,7 +3,7 @@
 use hedjosur_layout::Part;
 
 use super::owners::owned_offsets;
-use super::part::{level, owners, record, records, slots, Slot};
+use super::part::{levels_to, owners, record, used_slots, Slot};
 use crate::offsets::Offsets;
 use crate::record::Record;
 
@@ -61,7 +61,7 @@ impl Predictions {
     /// Fills in those of a sound group: the single and accurate records from the bottom
     /// up, so that what a record above predicts stays, then what the others own.
     pub fn fill(&mut self, part: &Part, lines: &mut Lines) {
-        let used = &slots(part)[..records(part)];
+        let used = used_slots(part);
         let levels = used.last().map_or(0, |slot| levels_to(slot).into());
         self.words.fill(word(levels, NO_PAGE));
         self.written = Offsets::NONE;
@@ -140,12 +140,6 @@ impl Line {
         let page = self.intercept.wrapping_add(rise).min(OUTSIDE);
         word(self.levels.into(), page)
     }
-}
-
-/// How many levels are looked at down to a slot.
-#[inline]
-fn levels_to(slot: &Slot) -> u16 {
-    level(slot) + 1
 }
 
 #[inline]

@@ -193,7 +193,6 @@ fn line_ends(written: &[u32]) -> [u8; 256] {
 mod tests {
     use std::collections::BTreeSet;
 
-    use hedjosur_layout::encode_record;
     use hedjosur_model::learn;
     use hedjosur_model::testing::{rounds, Random};
 
@@ -232,10 +231,7 @@ mod tests {
             log.note((first, &written));
             for bound in 0..=15 {
                 let learned = learn::learn(bound, first, &written);
-                let records: Vec<u8> = learned
-                    .iter()
-                    .flat_map(|one| encode_record(&one.record))
-                    .collect();
+                let records: Vec<u8> = learned.iter().flat_map(|one| one.record.bytes()).collect();
                 let mut out = vec![0; 8 * written.len()];
                 let count = super::learn(&written, first, bound, &mut out);
                 assert_eq!(out[..8 * count], records, "bound {bound}");

@@ -115,7 +115,7 @@ fn history<C: PlainCalls>(
         let (block_pages, logical_pages) = (device.block_pages, device.logical_pages);
         let mut plan = any_list(random, block_pages.into());
         match random.below(14) {
-            0..=4 => flush_by_any_means(beside, &device, random, |beside, random| {
+            0..=4 => flush_by_any_means(beside, &device, &batch(random, &device), |beside| {
                 discard_some(beside, &device, random);
             }),
             5 | 6 => {

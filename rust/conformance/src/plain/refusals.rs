@@ -3,10 +3,10 @@
 use hedjosur_layout::{encode_plain_state, HEAD_BYTES};
 use hedjosur_model::ops::Refusal::{self, *};
 use hedjosur_model::plain::{State, NOT_WRITTEN};
-use hedjosur_model::testing::CallLog;
 
 use crate::answers::Answers;
 use crate::calls::PlainCalls;
+use crate::orders;
 use crate::plain::beside::Beside;
 use crate::steps::Writer;
 
@@ -53,8 +53,7 @@ impl Lending {
     }
 }
 
-/// A change of what is lent, with the refusal that it brings about, if any.
-type Change = (Option<Refusal>, fn(&mut Lending));
+type Change = orders::Change<Lending>;
 
 const SHORT: Change = (Some(BadNumbers), |lent| lent.short = true);
 const OUTSIDE_LIMITS: Change = (Some(BadNumbers), |lent| lent.state.numbers[3] = 16);
@@ -167,19 +166,9 @@ fn check_order<C: PlainCalls>(
     changes: &[Change],
     call: impl Fn(&mut Beside<C>, &mut Lending) -> Option<Refusal>,
 ) {
-    for choice in 0..1 << changes.len() {
-        let chosen = (0..changes.len()).filter(|number| choice >> number & 1 == 1);
-        let chosen: Vec<Change> = chosen.map(|number| changes[number]).collect();
-        let mut lent = Lending::accepted();
-        // The last comes first, so that it finds the state as it was.
-        for (_, change) in chosen.iter().rev() {
-            change(&mut lent);
-        }
-        let log = &mut CallLog::new(choice);
-        log.note(&lent);
+    orders::check_order(&Lending::accepted(), changes, |lent, log| {
         let beside = &mut Beside::new(calls, log, answers);
         beside.lend(lent.bytes());
-        let expected = chosen.iter().find_map(|(refusal, _)| *refusal);
-        assert_eq!(call(beside, &mut lent), expected);
-    }
+        call(beside, lent)
+    });
 }

@@ -9,10 +9,12 @@ use hedjosur_model::device::Device;
 use hedjosur_model::ops::{Collected, Flushed, Lookup, Refusal};
 use hedjosur_model::plain::state_bytes as plain_state_bytes;
 use hedjosur_model::script::Listed;
+use hedjosur_model::testing::Told;
 use hedjosur_probe_sys::Found;
 
 use super::Subject;
 use crate::calls::{Calls, PlainCalls};
+use crate::why::read_entries;
 
 /// The baseline.
 #[derive(Clone, Copy, Debug)]
@@ -117,6 +119,11 @@ impl Calls for Baseline {
                 (level, s, l, record.word, record.intercept)
             });
         Ok(records.collect())
+    }
+
+    fn why(&self, state: &[u8], logical_page: u32, out: &mut [u8]) -> Result<Vec<Told>, Refusal> {
+        let count = device::why(state, logical_page, out)?;
+        Ok(read_entries(out, count))
     }
 }
 

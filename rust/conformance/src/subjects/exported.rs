@@ -1,8 +1,10 @@
 //! The proved calls of both engines.
 
-use hedjosur::{Device, Numbers, Plain};
+use hedjosur::{Device, Numbers, Plain, Reason};
+use hedjosur_model::device::offset_of;
 use hedjosur_model::ops::{Collected, Flushed, Lookup, Refusal};
 use hedjosur_model::script::Listed;
+use hedjosur_model::testing::Told;
 
 use crate::calls::{Calls, PlainCalls};
 
@@ -89,6 +91,17 @@ impl Calls for Exported {
         let records = listing.map(|r| (r.level.into(), r.start, r.span, r.word, r.intercept));
         Ok(records.collect())
     }
+
+    fn why(&self, state: &[u8], logical_page: u32, out: &mut [u8]) -> Result<Vec<Told>, Refusal> {
+        let device = Device { state, spare: () };
+        let reasons = device.why(logical_page, out).map_err(refusal)?;
+        let numbered = (0..).zip(reasons).map(|(level, reason)| {
+            let place = (reason.level(), reason.offset());
+            assert_eq!(place, (level, offset_of(logical_page)));
+            told(reason)
+        });
+        Ok(numbered.collect())
+    }
 }
 
 impl PlainCalls for Exported {
@@ -138,6 +151,28 @@ fn collected(collected: hedjosur::Collected) -> Collected {
         first: collected.first_page,
         count: collected.count,
         erased: collected.erased,
+    }
+}
+
+/// What is told of a level, in the model's terms.
+fn told(reason: Reason) -> Told {
+    let record = reason.record().map_or_else(Told::default, |record| Told {
+        start: record.start,
+        span: record.span,
+        word: record.word,
+        intercept: record.intercept,
+        ..Told::default()
+    });
+    let number = match reason {
+        Reason::NoneCovers { .. } => 0,
+        Reason::OffTheStride { .. } => 1,
+        Reason::NotOwned { .. } => 2,
+        Reason::Member { .. } => 3,
+    };
+    Told {
+        reason: number,
+        owner: reason.owner(),
+        ..record
     }
 }
 

@@ -2,6 +2,7 @@
 
 use super::{require, Refusal};
 use crate::device::{group_of, offset_of, Device};
+use crate::levels::Group;
 use crate::sound::group_is_sound;
 use crate::spare;
 use crate::state::{Lent, State};
@@ -54,8 +55,8 @@ pub fn lookup(lent: &Lent, area: &[u32], logical_page: u32) -> Result<Lookup, Re
     seek(&device, state, area, logical_page)
 }
 
-/// The device and the state, for a call about one logical page, or one of the
-/// refusals before 7.
+/// The device and the state, for a call about one logical page that is lent the spare
+/// area, or one of the refusals before 7.
 pub(super) fn open_for<'a>(
     lent: &'a Lent,
     area: &[u32],
@@ -63,11 +64,22 @@ pub(super) fn open_for<'a>(
 ) -> Result<(Device, &'a State), Refusal> {
     let (device, state) = lent.open()?;
     require(area.len() == device.spare_length(), Refusal::BadLength)?;
+    group_for(&device, state, logical_page)?;
+    Ok((device, state))
+}
+
+/// The group of a logical page, or what is refused after 1 and 2: '4; 3, its group not
+/// sound'.
+pub(super) fn group_for<'a>(
+    device: &Device,
+    state: &'a State,
+    logical_page: u32,
+) -> Result<&'a Group, Refusal> {
     require(logical_page < device.logical_pages, Refusal::OutOfRange)?;
     let number = group_of(logical_page);
-    let sound = group_is_sound(&device, number, &state.groups[number]);
-    require(sound, Refusal::NotSound)?;
-    Ok((device, state))
+    let group = &state.groups[number];
+    require(group_is_sound(device, number, group), Refusal::NotSound)?;
+    Ok(group)
 }
 
 /// Lookup in a group already known to be sound. Of a discarded page it 'says 'not

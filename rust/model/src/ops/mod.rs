@@ -10,6 +10,7 @@ mod format;
 mod list;
 mod lookup;
 mod refusal;
+mod why;
 
 pub use agreement::agreement;
 pub use collection::{collection, Collected};
@@ -20,6 +21,7 @@ pub use format::format;
 pub use list::list;
 pub use lookup::{lookup, Lookup};
 pub use refusal::Refusal;
+pub use why::{reasons, why, Reason, WhyEntry, ENTRY_BYTES, WHY_BYTES, WHY_ENTRIES};
 
 pub(crate) use collection::take;
 pub(crate) use flush::{opened_block, sort};

@@ -1,5 +1,6 @@
 //! What the tests share, repeatable and without dependencies: seeded generators,
-//! ways to break soundness, and the running of a program.
+//! ways to break soundness, a second look at what telling why lists, and the running
+//! of a program.
 
 mod devices;
 mod program;
@@ -7,6 +8,7 @@ mod random;
 mod rounds;
 mod spoilers;
 mod states;
+mod told;
 mod world;
 
 pub use devices::{
@@ -18,4 +20,5 @@ pub use random::Random;
 pub use rounds::{multiplier, rounds, CallLog};
 pub use spoilers::{Spoiler, SPOILERS};
 pub use states::{any_area, any_record, last_offset, sound_group, sound_plain_state, sound_state};
+pub use told::Told;
 pub use world::World;

@@ -2,7 +2,8 @@
 
 use super::{any_area, batch, lists, sound_state, Random};
 use crate::device::Device;
-use crate::ops::{self, Collected, Flushed, Lookup, Refusal};
+use crate::ops::{self, Collected, Flushed, Lookup, Refusal, ENTRY_BYTES, WHY_ENTRIES};
+use crate::record::{Kind, Record};
 use crate::state::{Lent, State};
 
 /// A state and its spare area.
@@ -34,6 +35,15 @@ impl World {
         World { lent, area }
     }
 
+    /// A device of M, B, N and g with these flushes behind it, all accepted.
+    pub fn flushed(numbers: [u32; 4], batches: &[&[u32]]) -> World {
+        let mut world = World::formatted(&Device::new(numbers).expect("a device"));
+        for batch in batches {
+            world.flush(batch).expect("an accepted flush");
+        }
+        world
+    }
+
     /// A device after some accepted flushes, collections and discards.
     pub fn lived_in(random: &mut Random, device: &Device) -> World {
         let mut world = World::formatted(device);
@@ -61,10 +71,33 @@ impl World {
         self.lent.held_mut()
     }
 
+    /// The same with all groups compacted.
+    pub fn compacted(&self) -> World {
+        let mut world = self.clone();
+        for group in 0..world.device().groups() as u32 {
+            ops::compaction(&mut world.lent, group).expect("an accepted compaction");
+        }
+        world
+    }
+
+    /// Makes a group unsound: a single with a span.
+    pub fn make_unsound(&mut self, group: usize) {
+        let wrong = Record::exact(0, 1, Kind::Single, 0);
+        self.state_mut().groups[group].levels.push(vec![wrong]);
+    }
+
     /// A flush whose plan is thrown away.
     pub fn flush(&mut self, batch: &[u32]) -> Result<Flushed, Refusal> {
         let [mut plan, _] = lists(&self.device());
         ops::flush(&mut self.lent, &mut self.area, batch, &mut plan)
+    }
+
+    /// An accepted flush, after a collection where it is refused 6.
+    pub fn flush_by_any_means(&mut self, batch: &[u32]) {
+        if self.flush(batch) == Err(Refusal::NoFreeBlock) {
+            self.collection().expect("an accepted collection");
+            self.flush(batch).expect("an accepted flush");
+        }
     }
 
     /// A collection whose plan and erased list are thrown away.
@@ -81,6 +114,17 @@ impl World {
     /// A lookup.
     pub fn lookup(&self, logical_page: u32) -> Result<Lookup, Refusal> {
         ops::lookup(&self.lent, &self.area, logical_page)
+    }
+
+    /// A telling why: the entries listed, in a buffer whose later bytes stay.
+    pub fn why(&self, logical_page: u32) -> Result<Vec<[u8; ENTRY_BYTES]>, Refusal> {
+        let lent = [0xA5; ENTRY_BYTES];
+        let mut out = lent.repeat(WHY_ENTRIES);
+        let listed = ops::why(&self.lent, logical_page, &mut out)?;
+        let (entries, _) = out.as_chunks();
+        let (entries, later) = entries.split_at(listed);
+        assert!(later.iter().all(|entry| *entry == lent));
+        Ok(entries.to_vec())
     }
 
     /// Agreement with another state and its spare area.

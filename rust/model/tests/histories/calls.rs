@@ -94,6 +94,14 @@ impl History<'_> {
         self.book.hear(Heard::Other);
     }
 
+    /// An accepted telling why, as a call of the list.
+    pub fn why(&mut self) {
+        let logical_page = self.random.below(self.device.logical_pages);
+        self.log.note(("why", logical_page));
+        assert!(self.world.why(logical_page).is_ok());
+        self.book.hear(Heard::Other);
+    }
+
     /// An accepted discard of any logical page.
     pub fn discard(&mut self) {
         let logical_page = self.random.below(self.device.logical_pages);

@@ -5,9 +5,10 @@ use hedjosur_model::ops::{Lookup, Refusal};
 use hedjosur_model::sound::state_is_sound;
 
 use crate::history::History;
+use crate::why::check_told;
 
 impl History<'_> {
-    /// Demand 3 for every logical page, and soundness.
+    /// Demand 3 for every logical page, and what is told of it; soundness.
     pub fn check(&mut self) {
         let (device, state) = self.world.lent.open().expect("a state");
         assert_eq!(device, self.device);
@@ -21,6 +22,7 @@ impl History<'_> {
             let marked = state.marks[logical_page as usize];
             assert_eq!(marked, last == Some(Event::Discard));
             let answer = self.world.lookup(logical_page).expect("an accepted lookup");
+            check_told(self.events, &self.world, logical_page, answer);
             match (answer, last) {
                 (Lookup::NotWritten { levels: 0 }, Some(Event::Discard)) => {
                     let by_records = unmarked.lookup(logical_page);

@@ -27,6 +27,13 @@ pub struct Events {
     pub written_again: usize,
     pub spared_refusal_7: usize,
     pub nothing_to_copy: usize,
+    pub told_none: usize,
+    pub told_off_the_stride: usize,
+    pub told_unowned: usize,
+    pub told_owner: usize,
+    pub told_hidden_owner: usize,
+    pub told_member: usize,
+    pub told_nothing: usize,
 }
 
 /// Asserts that each of the named events happened.

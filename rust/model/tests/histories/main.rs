@@ -9,6 +9,7 @@ mod history;
 mod refused;
 mod steps;
 mod watch;
+mod why;
 
 use events::{assert_happened, Events};
 use hedjosur_model::testing::{batch, full_device, rounds, small_device};
@@ -50,6 +51,13 @@ fn small_devices() {
         written_again,
         spared_refusal_7,
         nothing_to_copy,
+        told_none,
+        told_off_the_stride,
+        told_unowned,
+        told_owner,
+        told_hidden_owner,
+        told_member,
+        told_nothing,
     );
 }
 
@@ -90,6 +98,7 @@ fn larger_devices() {
         discarded_before_a_repeat,
         written_again,
         spared_refusal_7,
+        told_hidden_owner,
     );
 }
 

@@ -1,7 +1,7 @@
 //! Refused calls, which change nothing.
 
 use hedjosur_model::book::Heard;
-use hedjosur_model::ops::{self, Refusal};
+use hedjosur_model::ops::{self, Refusal, WHY_BYTES};
 use hedjosur_model::testing::{lists, World};
 
 use crate::history::History;
@@ -12,9 +12,10 @@ impl History<'_> {
         let device = self.device;
         let (logical_pages, block_pages) = (device.logical_pages, device.block_pages);
         let before = self.world.clone();
-        let wrong = self.random.below(14);
+        let wrong = self.random.below(16);
         self.log.note(("refused call", wrong));
         let [mut plan, mut erased] = lists(&device);
+        let mut out = vec![99; WHY_BYTES];
         let World { lent, area } = &mut self.world;
         let short = area.len() - 1;
         let number = |answer: Result<(), Refusal>| answer.expect_err("refused").number();
@@ -46,7 +47,9 @@ impl History<'_> {
             }
             10 => (number(ops::discard(lent, area, logical_pages)), 4),
             11 => (number(ops::discard(lent, &area[1..], 0)), 2),
-            12 => {
+            12 => (number(ops::why(lent, logical_pages, &mut out).map(drop)), 4),
+            13 => (number(ops::why(lent, 0, &mut out[1..]).map(drop)), 2),
+            14 => {
                 let numbers = [device.blocks, block_pages, 0, device.bound];
                 (number(ops::format(lent, area, numbers)), 1)
             }
@@ -57,6 +60,7 @@ impl History<'_> {
         };
         assert_eq!(refusal, expected);
         assert_eq!([plan, erased], lists(&device));
+        assert!(out.iter().all(|&byte| byte == 99));
         self.refused(&before);
         self.check();
     }

@@ -19,13 +19,14 @@ impl History<'_> {
     }
 
     /// 'Whatever lookups, compactions and refused calls come between', and
-    /// discards.
+    /// discards; and telling why, which writes neither state nor spare area.
     fn interlude(&mut self) {
         for _ in 0..self.random.below(4) {
-            match self.random.below(4) {
+            match self.random.below(5) {
                 0 => self.lookup(),
                 1 => self.compaction(),
-                2 => {
+                2 => self.why(),
+                3 => {
                     self.discard();
                     self.events.discarded_before_a_repeat += 1;
                 }
@@ -36,7 +37,7 @@ impl History<'_> {
 
     /// One random call, or a few that belong together.
     pub fn step(&mut self) {
-        match self.random.below(18) {
+        match self.random.below(19) {
             0..=8 => {
                 let batch = batch(self.random, &self.device);
                 self.flush_by_any_means(&batch, Self::interlude);
@@ -47,6 +48,7 @@ impl History<'_> {
             12 | 13 => self.refused_call(),
             14 => self.agreement(),
             15 | 16 => self.discard(),
+            17 => self.why(),
             _ if self.random.once_in(8) => self.reformat(),
             _ => self.lookup(),
         }

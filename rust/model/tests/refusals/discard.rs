@@ -16,7 +16,7 @@ fn refuses_in_order() {
             let facts = Facts::of(&world);
             let logical_page = any_logical_page(random, facts.logical_pages);
             log.note(("discard", &world, logical_page));
-            let expected = first_of(&facts.refused_for(logical_page));
+            let expected = first_of(&facts.refused_for(logical_page, facts.area_length_wrong()));
             let answer = expect(tally, expected, &mut world, |world| {
                 world.discard(logical_page)
             });

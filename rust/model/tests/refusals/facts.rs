@@ -81,12 +81,13 @@ impl<'a> Facts<'a> {
         !self.outside_limits() && !self.state_length_wrong() && !self.area_length_wrong()
     }
 
-    /// The refusals of a call about one logical page, before 7.
-    pub fn refused_for(&self, logical_page: u32) -> [Condition; 5] {
+    /// The refusals of a call about one logical page, before 7, where what is lent
+    /// besides the state has a wrong length or hasn't.
+    pub fn refused_for(&self, logical_page: u32, length_wrong: bool) -> [Condition; 5] {
         [
             (1, self.outside_limits()),
             (2, self.state_length_wrong()),
-            (2, self.area_length_wrong()),
+            (2, length_wrong),
             (4, u64::from(logical_page) >= self.logical_pages),
             (3, self.group_unsound((logical_page / 256) as usize)),
         ]

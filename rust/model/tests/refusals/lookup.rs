@@ -17,7 +17,7 @@ fn refuses_in_order() {
         for _ in 0..4 {
             let logical_page = any_logical_page(random, facts.logical_pages);
             log.note(("lookup", &copy, logical_page));
-            let refused = facts.refused_for(logical_page);
+            let refused = facts.refused_for(logical_page, facts.area_length_wrong());
             let looked_up = match first_of(&refused) {
                 0 => facts.looked_up(logical_page.into()),
                 _ => Ok((None, 0)),

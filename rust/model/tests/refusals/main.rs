@@ -15,4 +15,5 @@ mod format;
 mod groups;
 mod lookup;
 mod plain;
+mod why;
 mod worlds;

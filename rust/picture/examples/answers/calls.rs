@@ -2,6 +2,7 @@
 
 use hedjosur_model::ops::Lookup;
 use hedjosur_model::script::{read_line, takes, Answer, Line, Program};
+use hedjosur_picture::words::counted;
 
 /// The lines for a script. Lines that are no calls are left out.
 pub fn answers(script: &[u8]) -> String {
@@ -46,10 +47,7 @@ fn words(answer: &Answer) -> String {
 }
 
 fn lookup_words(answer: Lookup) -> String {
-    let looked = |levels| match levels {
-        1 => "1 level".to_string(),
-        _ => format!("{levels} levels"),
-    };
+    let looked = |levels| counted(levels, "level");
     match answer {
         Lookup::Found {
             page,

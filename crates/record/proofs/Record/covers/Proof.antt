@@ -1,11 +1,11 @@
--- `covers` meets its contract: below the start, and from it on by the difference.
+-- `covers` meets its contract: the distance from the start, modulo 256, is at most the span.
 use borrow.Author.Needs.{needs}
-use Rattle.record.proofs.Members.{covers-below, covers-from}
+use Rattle.record.proofs.Members.{covers-near}
 use Rattle.record.proofs.Record.covers.Statement.{statement}
 use Rattle.record.proofs.Record.covers.Tie as tie
 
-returns-2 : tie.Need-returns-2
-returns-2 c = λ owned. covers-from _ _ (c .before .before .if1 .left)
+returns : tie.Need-returns
+returns c = λ owned. covers-near _ _ (c .before .before .pre .0) (c .before .before .pre .1)
 
 pub covers-spec : {M : Type 1} → statement M
-covers-spec = tie.close (tie.spec (λ c. search (covers-below, needs)) returns-2)
+covers-spec = tie.close (tie.spec (λ c. search needs) (λ c. search needs) returns)
