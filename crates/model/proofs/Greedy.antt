@@ -5,7 +5,7 @@ use mathlib.Core.Path.{_≡_, refl, sym, ap}
 use mathlib.Core.List.{List, [], _∷_}
 use mathlib.Core.Logic.{_⊎_, inl, inr}
 use mathlib.Core.Bool.{Bool, true, false}
-use Prim.Native.Nat.{ℕ, zero, suc, _+_, _-_, _≤_, _<_, suc-le-suc}
+use Prim.Native.Nat.{ℕ, zero, suc, _+_, _-_, _≤_, _<_}
 use native.Mathlib.Omega.{arith}
 use lib.Dec.{ltb, leb, eqb}
 use lib.ListN.{length, getD}
@@ -23,7 +23,7 @@ stride-most d x l zero h f = omega arith
 stride-most d x [] (suc m) h f = absurd (omega arith)
 stride-most d x (y ∷ l) (suc m) h f =
     rw (eq-eqb y (x + d) (f 0 (omega arith)), strideLength)
-    (suc-le-suc (stride-most d y l m (omega arith) (λ i k. f (suc i) (omega arith))))
+    (omega (arith, stride-most d y l m (omega arith) (λ i k. f (suc i) (omega arith))))
 
 -- f is as good as each run of a slope from s to t and an intercept that suits its offsets
 abbrev pub Greatest : Bounds → ℕ → List ℕ → ℕ → ℕ → Fit → Type 0

@@ -44,3 +44,7 @@ pub mod Sorting
 pub mod Learned
 pub mod Hits
 pub mod Demand2
+pub mod Suffix
+pub mod NoShorter
+pub mod StrideRuns
+pub mod Budget

@@ -9,3 +9,5 @@ pub mod State
 pub mod Sound
 pub mod Totals
 pub mod Demand2
+pub mod NoShorter
+pub mod Budget
