@@ -1,3 +1,4 @@
 pub mod Ways
 pub mod Rejected
 pub mod Stopping
+pub mod Learners

@@ -10,3 +10,4 @@ pub mod PlainShams
 pub mod Ways
 pub mod Shams
 pub mod Passes
+pub mod Learners
