@@ -9,8 +9,9 @@ use lib.ListN.{length, length-map}
 use Rattle.model.specs.Learning.{Bounds, learn, recordsFor}
 use Rattle.model.specs.Demand2.{AccurateRun, Near, boundsOf}
 use Rattle.model.specs.NoShorter.{AnyRun, Cutting, pagesIn, runStart, Shortest}
-use Rattle.model.specs.Budget.{strideRuns, Budgeted, Budget}
+use Rattle.model.specs.Budget.{strideRuns, Budgeted, Budget, Held}
 use Rattle.model.proofs.Lists.{Asc}
+use Rattle.model.proofs.RecordCount.{takeIn-count}
 use Rattle.model.proofs.Sorting.{sort-asc}
 use Rattle.model.proofs.NoShorter.{learned-records, learned-shortest}
 use Rattle.model.proofs.StrideRuns.{learned-strides}
@@ -82,3 +83,7 @@ learned-budgeted p written a = record {
 -- The budget: what is sorted ascends.
 pub within-budget : Budget learn
 within-budget p ws = learned-budgeted p _ (sort-asc ws)
+
+-- What a group holds.
+pub held-within : Held
+held-within = takeIn-count

@@ -1,21 +1,22 @@
--- How many records insertion and compaction leave in a group. Assumes nothing.
+-- How many records insertion, compaction and taking in leave in a group. Assumes nothing.
 use mathlib.Core.Path.{_≡_, refl, sym, _∙_, ap}
 use mathlib.Core.List.{List, [], _∷_, flatten}
 use mathlib.Core.Option.{Option, none, some}
 use mathlib.Core.Logic.{_⊎_, inl, inr}
-use mathlib.Core.Bool.{true≢false, true, false}
+use mathlib.Core.Bool.{Bool, true≢false, true, false}
 use Prim.Native.Nat.{ℕ, suc, _+_, _≤_, _<_}
 use native.Mathlib.Omega.{arith}
+use lib.Dec.{ltb}
 use lib.ListN.{length}
 use Rattle.model.specs.Lists.{elem, distinct}
 use Rattle.model.specs.Record.{Record, member}
-use Rattle.model.specs.Levels.{Group, listing, recordCount, shrink, keep, insert, insertAll, memberOfAny, shrinkAll, putBack, compact}
+use Rattle.model.specs.Levels.{Group, listing, recordCount, shrink, keep, insert, insertAll, memberOfAny, shrinkAll, putBack, compact, groupLimit, takeIn}
 use Rattle.model.specs.Totals.{total}
 use Rattle.model.proofs.Bools.{is-false, or-none}
 use Rattle.model.proofs.Lists.{elem-cons, no-elem}
 use Rattle.model.proofs.Shrink.{Outcome, gone, left, shrink-outcome}
 use Rattle.model.proofs.Counting.{distinct-cons, pigeonhole}
-use Rattle.model.proofs.Total.{Lessens, total-putBack, total-insertAll}
+use Rattle.model.proofs.Total.{Lessens, total-putBack, total-insertAll, total-compact}
 
 -- each record counts
 each : Record → ℕ
@@ -40,6 +41,20 @@ insertAll-count rs g =
 pub insert-count : (r : Record) (g : Group) → recordCount (insert r g) ≤ suc (recordCount g)
 unfolding insertAll
 insert-count r g = omega (arith, insertAll-count (r ∷ []) g)
+
+-- Compaction adds none, ..
+compact-adds-none : (g : Group) → recordCount (compact g) ≤ recordCount g
+unfolding recordCount
+compact-adds-none g = omega (arith, total-compact each each-lessens g, length-total (listing (compact g)), length-total (listing g))
+
+-- .. so records taken in add at most as many, too.
+pub takeIn-count : (rs : List Record) (g : Group) → recordCount (takeIn rs g) ≤ recordCount g + length rs
+unfolding takeIn
+takeIn-count rs g = go (ltb groupLimit (recordCount g + length rs)) refl
+  where
+    go : (t : Bool) → ltb groupLimit (recordCount g + length rs) ≡ t → recordCount (takeIn rs g) ≤ recordCount g + length rs
+    go true e = rw (e, takeIn) (omega (arith, insertAll-count rs (compact g), compact-adds-none g))
+    go false e = rw (e, takeIn) (insertAll-count rs g)
 
 -- the records' first offsets
 starts : List Record → List ℕ

@@ -1,6 +1,6 @@
 -- Document 02, i: "The memory budget of the new line is drawn up from record counts." What it can count on of one flush or collection,
--- without learning anything. The theorem is `within-budget` (proofs/Budget.antt), of the type `Budget` at the end of this file. Assumes
--- nothing.
+-- without learning anything. The theorems are `within-budget` and `held-within` (proofs/Budget.antt), of the types `Budget` and `Held` at
+-- the end of this file. Assumes nothing.
 use mathlib.Core.Path.{_≡_}
 use mathlib.Core.List.{List, [], _∷_, map}
 use mathlib.Core.Option.{Option, none, some}
@@ -9,7 +9,9 @@ use Prim.Native.Nat.{ℕ, _+_, _-_, _≤_}
 use lib.Dec.{eqb}
 use lib.ListN.{length}
 use Rattle.model.specs.Device.{groupOf}
+use Rattle.model.specs.Record.{Record}
 use Rattle.model.specs.Learning.{Write, Run, sort, logicals, recordsFor}
+use Rattle.model.specs.Levels.{Group, recordCount, takeIn}
 use Rattle.model.specs.NoShorter.{pagesIn, runStart}
 
 -- "The accurate run goes on while the stride of its first two holds": whether it goes on from page x to page y. Its stride is none
@@ -43,3 +45,7 @@ pub record Budgeted (p : ℕ) (written : List ℕ) (learning : ℕ → ℕ → L
 -- The budget of a way of learning: on every block, of whatever is written once it is sorted.
 abbrev pub Budget : (ℕ → ℕ → List ℕ → List Run) → Type 0
 Budget learning = (p : ℕ) (ws : List Write) → Budgeted p (logicals (sort ws)) learning
+
+-- What is learned is not what is held: a group that takes records in holds at most so many more than before, compacted first or not.
+abbrev pub Held : Type 0
+Held = (rs : List Record) (g : Group) → recordCount (takeIn rs g) ≤ recordCount g + length rs
