@@ -110,12 +110,21 @@ pub struct Writing {
     pub erased_most: u64,
     /// Compactions of all groups.
     pub compactions: u64,
+    /// Stride runs of what each flush and collection wrote.
+    pub strides: u64,
+    /// Records that were learned from it.
+    pub learned: u64,
 }
 
 impl Writing {
+    /// Pages that flushes and collections programmed.
+    pub fn programmed(&self) -> u64 {
+        self.flushed + self.copied
+    }
+
     /// Programmed pages for each page that the load wrote.
     pub fn amplification(&self) -> f64 {
-        ratio(self.flushed + self.copied, self.written)
+        ratio(self.programmed(), self.written)
     }
 }
 

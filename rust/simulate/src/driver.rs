@@ -4,6 +4,7 @@ use std::time::{Duration, Instant};
 
 use hedjosur::{Device, Numbers, Refusal};
 
+use crate::budget::{records_learned, stride_runs};
 use crate::counts::{Lookups, Times, Writing};
 use crate::memory::Usage;
 use crate::nand::Nand;
@@ -120,11 +121,12 @@ impl Driver {
         };
         self.writing.flushes += 1;
         self.writing.flushed += u64::from(flushed.count);
-        for (page, arrival) in (flushed.first_page..).zip(&self.plan[..flushed.count as usize]) {
+        let sources = &self.plan[..flushed.count as usize];
+        let written = sources.iter().map(|arrival| {
             let logical_page = batch[*arrival as usize];
-            let version = self.versions[logical_page as usize];
-            self.nand.program(page, (logical_page, version));
-        }
+            (logical_page, self.versions[logical_page as usize])
+        });
+        self.program(flushed.first_page, written.collect());
         Ok(stall)
     }
 
@@ -139,14 +141,27 @@ impl Driver {
         writing.copied_most = writing.copied_most.max(copied);
         writing.erased += erased;
         writing.erased_most = writing.erased_most.max(erased);
-        for (page, from) in (collected.first_page..).zip(&self.plan[..copied as usize]) {
-            let content = self.nand.read(*from).expect("a written page");
-            self.nand.program(page, content);
-        }
+        let sources = &self.plan[..copied as usize];
+        let written = sources
+            .iter()
+            .map(|from| self.nand.read(*from).expect("a written page"));
+        self.program(collected.first_page, written.collect());
         for block in &self.erased[..erased as usize] {
             self.nand.erase(*block);
         }
         Ok(took)
+    }
+
+    /// Programs the pages from this one on with logical pages and their versions, and
+    /// counts the records learned from them.
+    fn program(&mut self, first_page: u32, written: Vec<(u32, u32)>) {
+        let logical_pages = Vec::from_iter(written.iter().map(|(logical_page, _)| *logical_page));
+        self.writing.strides += stride_runs(&logical_pages);
+        self.writing.learned +=
+            records_learned(&logical_pages, first_page, self.numbers.error_bound);
+        for (page, content) in (first_page..).zip(written) {
+            self.nand.program(page, content);
+        }
     }
 
     /// Reads a logical page: from the buffer, or after a lookup, which is counted.
@@ -251,6 +266,8 @@ mod tests {
             copied_most: 1,
             erased: 2,
             erased_most: 2,
+            strides: 4,
+            learned: 4,
             ..Writing::default()
         };
         assert_eq!(driver.writing, counted);

@@ -4,7 +4,8 @@
 //! - [`load`]: the loads, made by a rule or read from a trace
 //! - [`nand`]: the chip, which keeps the rules of flash
 //! - [`driver`]: a buffer before the chip; flushes, collections and lookups
-//! - [`counts`] and [`memory`]: what is counted, what the table takes
+//! - [`counts`] and [`memory`]: what is counted, what the table takes; [`budget`]: the
+//!   records that a flush or collection learns
 //! - [`run()`]: one load on one device; [`options`]: which ones
 //! - [`report`] and [`plot`]: tables, comma-separated values, a drawing ([`chart`]);
 //!   [`page`]: a page that shows them
@@ -16,6 +17,7 @@
 #![forbid(unsafe_code)]
 #![warn(missing_docs)]
 
+pub mod budget;
 pub mod chart;
 pub mod counts;
 pub mod driver;

@@ -138,6 +138,17 @@ pub static COLUMNS: &[Column] = &[
     writing("compactions", "compactions of all groups", |o| {
         o.writing.compactions as f64
     }),
+    writing(
+        "programmed",
+        "pages that flushes and collections programmed",
+        |o| o.writing.programmed() as f64,
+    ),
+    writing("strides", "stride runs of what each wrote", |o| {
+        o.writing.strides as f64
+    }),
+    writing("learned", "records learned from it", |o| {
+        o.writing.learned as f64
+    }),
     exact(
         "lookups",
         "lookups that the load made",

@@ -203,6 +203,29 @@ mod tests {
         }
     }
 
+    /// Document 02, i: there are never more records than stride runs, nor than at a
+    /// smaller bound, and at bound 0 exactly as many as stride runs.
+    #[test]
+    fn records_stay_within_the_budget() {
+        for pattern in Pattern::ALL {
+            let mut case = case(Load::Made(pattern));
+            let mut before = u64::MAX;
+            for bound in [0, 1, 2, 4, 15] {
+                case.numbers.error_bound = bound;
+                let writing = ran(&case).writing;
+                if bound == 0 {
+                    assert_eq!(writing.learned, writing.strides, "{pattern:?}");
+                }
+                assert!(
+                    writing.learned <= writing.strides.min(before),
+                    "{pattern:?}"
+                );
+                assert!(writing.strides <= writing.programmed(), "{pattern:?}");
+                before = writing.learned;
+            }
+        }
+    }
+
     /// Syncs flush few pages, each into a block of its own.
     #[test]
     fn syncs_cost_blocks() {
