@@ -15,6 +15,7 @@ use Rattle.model.proofs.RecordCount.{takeIn-count}
 use Rattle.model.proofs.Sorting.{sort-asc}
 use Rattle.model.proofs.NoShorter.{learned-records, learned-shortest}
 use Rattle.model.proofs.StrideRuns.{learned-strides}
+use Rattle.model.proofs.GroupShare.{learned-share}
 
 -- One page alone is a run, so each page on its own is a cutting.
 singles-cut : (b : Bounds) (p : ℕ) (l : List ℕ) → Cutting b p l l
@@ -55,6 +56,7 @@ module _ (b c : Bounds) (more : b .g ≤ c .g) (first : b .first ≡ c .first) (
 learned-budgeted : (p : ℕ) (written : List ℕ) → Asc 0 written → Budgeted p written learn
 learned-budgeted p written a = record {
   pages = λ g k. shortest g .leastIn k written (singles-cut _ p written);
+  shared = λ g k. learned-share g p k written a;
   strides = strides;
   exact = sym (size 0) ∙ ap length strides;
   exactIn = λ k. records 0 k ∙ ap (pagesIn k) strides;

@@ -47,4 +47,6 @@ pub mod Demand2
 pub mod Suffix
 pub mod NoShorter
 pub mod StrideRuns
+pub mod FewPages
+pub mod GroupShare
 pub mod Budget

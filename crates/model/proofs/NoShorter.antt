@@ -23,7 +23,7 @@ use Rattle.model.proofs.Suffix.{suffix-run, suffix-first}
 
 module _ {b : Bounds} {p : ℕ} {l : List ℕ} where
   -- The greedy rule's run at a place is a run ..
-  greedy-run : {r : Record} {n : ℕ} → GreedyRun b p l r n → AnyRun b p l n
+  pub greedy-run : {r : Record} {n : ℕ} → GreedyRun b p l r n → AnyRun b p l n
   greedy-run (GreedyRun.single c f g) = AnyRun.accurate c
   greedy-run (GreedyRun.accurate n h c f g) = AnyRun.accurate c
   greedy-run (GreedyRun.approximate n a I c f g s) = AnyRun.approximate a I c
@@ -34,7 +34,7 @@ module _ {b : Bounds} {p : ℕ} {l : List ℕ} where
   none-longer f g m (AnyRun.approximate a I c) = g m a I c
 
   -- .. none there is longer, ..
-  greedy-longest : {r : Record} {n : ℕ} → GreedyRun b p l r n → (m : ℕ) → AnyRun b p l m → m ≤ n
+  pub greedy-longest : {r : Record} {n : ℕ} → GreedyRun b p l r n → (m : ℕ) → AnyRun b p l m → m ≤ n
   greedy-longest (GreedyRun.single c f g) = none-longer f g
   greedy-longest (GreedyRun.accurate n h c f g) = none-longer f g
   greedy-longest (GreedyRun.approximate n a I c f g s) = none-longer (λ m d. omega (arith, f m d)) g
@@ -46,7 +46,7 @@ module _ {b : Bounds} {p : ℕ} {l : List ℕ} where
   greedy-start (GreedyRun.accurate n h c f g) = refl
   greedy-start (GreedyRun.approximate n a I c f g s) = refl
 
-run-start : {b : Bounds} {p x : ℕ} {l : List ℕ} (r : Run) → r .group ≡ groupOf x → GreedyRun b p (x ∷ l) (r .learned) (r .taken) → runStart r ≡ x
+pub run-start : {b : Bounds} {p x : ℕ} {l : List ℕ} (r : Run) → r .group ≡ groupOf x → GreedyRun b p (x ∷ l) (r .learned) (r .taken) → runStart r ≡ x
 unfolding runStart
 run-start r e h = omega (arith, e, greedy-start h)
 

@@ -11,7 +11,7 @@ use Rattle.model.specs.Learning.{Bounds}
 use Rattle.model.specs.Demand2.{OneGroup, AccurateRun, ApproximateRun}
 use Rattle.model.specs.NoShorter.{AnyRun}
 
-any-group : {b : Bounds} {p n : ℕ} {l : List ℕ} → AnyRun b p l n → OneGroup l n
+pub any-group : {b : Bounds} {p n : ℕ} {l : List ℕ} → AnyRun b p l n → OneGroup l n
 any-group (AnyRun.accurate r) = r .oneGroup
 any-group (AnyRun.approximate a I r) = r .oneGroup
 

@@ -5,10 +5,10 @@ use mathlib.Core.Path.{_≡_}
 use mathlib.Core.List.{List, [], _∷_, map}
 use mathlib.Core.Option.{Option, none, some}
 use mathlib.Core.Bool.{Bool, true, false, _&&_}
-use Prim.Native.Nat.{ℕ, _+_, _-_, _≤_}
+use Prim.Native.Nat.{ℕ, _+_, _*_, _-_, _≤_}
 use lib.Dec.{eqb}
 use lib.ListN.{length}
-use Rattle.model.specs.Device.{groupOf}
+use Rattle.model.specs.Device.{ceil, groupOf}
 use Rattle.model.specs.Record.{Record}
 use Rattle.model.specs.Learning.{Write, Run, sort, logicals, recordsFor}
 use Rattle.model.specs.Levels.{Group, recordCount, takeIn}
@@ -34,6 +34,8 @@ strideRuns (x ∷ l) = x ∷ runsBehind none x l
 pub record Budgeted (p : ℕ) (written : List ℕ) (learning : ℕ → ℕ → List ℕ → List Run) : Type 0 where
   -- a group gets at most one record for each page written there
   pub pages : (g k : ℕ) → length (recordsFor k (learning g p written)) ≤ pagesIn k written
+  -- any 2g + 2 pages of a group that follow each other are a run, so it gets at most its pages divided by that, rounded up
+  pub shared : (g k : ℕ) → length (recordsFor k (learning g p written)) ≤ ceil (pagesIn k written) (2 * g + 2)
   -- at bound 0 the runs learned are the stride runs: exactly so many records, in all and in each group
   pub strides : map runStart (learning 0 p written) ≡ strideRuns written
   pub exact : length (learning 0 p written) ≡ length (strideRuns written)
