@@ -4,6 +4,7 @@ use std::error;
 use std::fmt::{self, Display, Formatter};
 
 use hedjosur_model::device::Device;
+use hedjosur_model::learn::last_arrivals;
 use hedjosur_model::ops::{self, Refusal};
 use hedjosur_model::script::{read_line, takes, Line};
 use hedjosur_model::testing::World;
@@ -18,6 +19,21 @@ pub struct Replay {
     /// The calls that would have changed something and were refused: the number of the
     /// line, counted from 1, and why.
     pub refused: Vec<(usize, Refusal)>,
+    /// The last flush that was accepted, whatever came after it.
+    pub flush: Option<Flush>,
+}
+
+/// An accepted flush: what it put where.
+#[derive(Clone, Debug, PartialEq, Eq)]
+pub struct Flush {
+    /// The number of its line, counted from 1.
+    pub line: usize,
+    /// Its logical pages, each once, ascending: they are put on consecutive pages.
+    pub sorted: Vec<u32>,
+    /// The first of these pages.
+    pub first: u32,
+    /// The bound that they are learned with.
+    pub bound: u32,
 }
 
 /// Why a script leaves nothing to look at.
@@ -61,15 +77,21 @@ pub fn replay(script: &[u8], lines: Option<usize>) -> Result<Replay, Error> {
     let script = script
         .get(..wanted)
         .ok_or(Error::TooShort(script.len(), wanted))?;
-    let (mut world, mut refused) = (None, Vec::new());
+    let (mut world, mut refused, mut flush) = (None, Vec::new(), None);
     for (number, text) in (1..).zip(script) {
         let line = read_line(text).ok_or_else(|| bad_line(number, text))?;
-        if let Err(refusal) = call(&mut world, &line) {
-            refused.push((number, refusal));
+        match call(&mut world, number, &line) {
+            Ok(None) => {}
+            Ok(flushed) => flush = flushed,
+            Err(refusal) => refused.push((number, refusal)),
         }
     }
     let world = world.ok_or(Error::NoFormat)?;
-    Ok(Replay { world, refused })
+    Ok(Replay {
+        world,
+        refused,
+        flush,
+    })
 }
 
 fn bad_line(number: usize, text: &[u8]) -> Error {
@@ -77,20 +99,30 @@ fn bad_line(number: usize, text: &[u8]) -> Error {
     Error::BadLine(number, text.escape_debug().to_string())
 }
 
-/// Makes one call; lookups and listings change nothing and are passed over.
-fn call(world: &mut Option<World>, line: &Line) -> Result<(), Refusal> {
+/// Makes the call of a line, and answers it if it is a flush; lookups and listings change
+/// nothing and are passed over.
+fn call(world: &mut Option<World>, number: usize, line: &Line) -> Result<Option<Flush>, Refusal> {
     if let Line::Format(numbers) = line {
         let device = Device::new(*numbers).filter(|_| takes(*numbers));
         *world = Some(World::formatted(&device.ok_or(Refusal::BadNumbers)?));
-        return Ok(());
+        return Ok(None);
     }
     let world = world.as_mut().ok_or(Refusal::BadNumbers)?;
     match line {
-        Line::Flush(batch) => world.flush(batch).map(drop),
-        Line::Collection => world.collection().map(drop),
-        Line::Compaction(group) => ops::compaction(&mut world.lent, *group).map(drop),
-        Line::Format(_) | Line::Lookup(_) | Line::List(_) => Ok(()),
+        Line::Flush(batch) => {
+            let flushed = world.flush(batch)?;
+            return Ok(Some(Flush {
+                line: number,
+                sorted: last_arrivals(batch).into_keys().collect(),
+                first: flushed.first,
+                bound: world.device().bound,
+            }));
+        }
+        Line::Collection => drop(world.collection()?),
+        Line::Compaction(group) => drop(ops::compaction(&mut world.lent, *group)?),
+        Line::Format(_) | Line::Lookup(_) | Line::List(_) => {}
     }
+    Ok(None)
 }
 
 #[cfg(test)]
@@ -115,6 +147,27 @@ mod tests {
             levels: 1,
         };
         assert_eq!(two.world.lookup(0), Ok(found));
+    }
+
+    /// The last flush is the last accepted one, sorted, with every page once.
+    #[test]
+    fn the_last_flush() {
+        let script = [SCRIPT, b"\n 2       3       1       3\n 2       4"].concat();
+        let flush = |lines| replay(&script, Some(lines)).expect("a script").flush;
+        let made = |line, sorted: &[u32], first| Flush {
+            line,
+            sorted: sorted.to_vec(),
+            first,
+            bound: 0,
+        };
+        assert_eq!(flush(1), None);
+        assert_eq!(flush(2), Some(made(2, &[0], 0)));
+        for lines in 3..=6 {
+            assert_eq!(flush(lines), Some(made(3, &[0], 4)));
+        }
+        for lines in 7..=8 {
+            assert_eq!(flush(lines), Some(made(7, &[1, 3], 0)));
+        }
     }
 
     /// A refused format leaves the device as it was, and a compaction changes its group.

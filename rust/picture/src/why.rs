@@ -10,7 +10,7 @@ use hedjosur_model::record::{Kind, Record};
 use hedjosur_model::spare::{self, NOBODY};
 use hedjosur_model::state::Lent;
 
-use crate::words::counted;
+use crate::words::{self, counted};
 
 /// What is told of a logical page. It is displayed as lines for a person.
 #[derive(Clone, Debug)]
@@ -229,8 +229,7 @@ pub fn range(record: &Record) -> String {
     let (start, last) = (record.start, record.last());
     match record.kind() {
         Some(Kind::Single) => format!("{start}, single"),
-        Some(Kind::Accurate { stride }) => format!("{start}..{last}, stride {stride}"),
-        Some(Kind::Approximate { .. }) => format!("{start}..{last}, approximate"),
+        Some(kind) => format!("{start}..{last}, {}", words::kind(kind)),
         None => format!("{start}..{last}, no kind"),
     }
 }

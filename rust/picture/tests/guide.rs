@@ -13,7 +13,7 @@ use std::collections::BTreeSet;
 use std::fs;
 use std::path::{Path, PathBuf};
 
-use commands::{Quote, PROMPT};
+use commands::{quotes, Quote, PROMPT};
 use common::{guide_files, root, text};
 use hedjosur_model::script::{self, HEAD};
 use hedjosur_model::testing::{proved_listing, run_program};
@@ -68,16 +68,18 @@ fn every_script_gives_its_answers() {
     assert_eq!(guide_files("answers").len(), with_answers);
 }
 
-/// A file NAME.why has commands, each with what it prints, and nothing else. A picture is
-/// written into a file instead.
+/// A file NAME.why or NAME.cuttings has commands of that program, each with what it prints,
+/// and nothing else. A picture is written into a file instead.
 #[test]
 fn every_quoted_command_gives_what_is_quoted() {
-    for file in guide_files("why") {
+    for file in quotes() {
         let quoted = text(&file);
         let quote = Quote::anew(&quoted, &root());
         assert_eq!(quote.text, quoted, "{file:?}");
-        let commands = quoted.lines().filter(|line| line.starts_with(PROMPT));
+        let program = file.extension().expect("a program").to_string_lossy();
+        let commands = quoted.lines().filter_map(|line| line.strip_prefix(PROMPT));
         for command in commands {
+            assert!(command.starts_with(&format!("{program} ")), "{file:?}");
             let is_picture = command.contains(" --picture");
             assert_eq!(command.contains(" > "), is_picture, "{command}");
         }
@@ -130,12 +132,11 @@ fn what_the_guide_quotes_is_the_files_text() {
         );
         assert!(quoted.insert(file.clone()), "{file} is quoted twice");
     }
-    for extension in ["script", "listing", "answers", "why"] {
-        for file in guide_files(extension) {
-            let name = file.file_name().expect("a file").to_string_lossy();
-            let name = format!("guide/{name}");
-            assert!(quoted.remove(&name), "the guide doesn't quote {name}");
-        }
+    let stored = ["script", "listing", "answers"].map(guide_files);
+    for file in stored.into_iter().flatten().chain(quotes()) {
+        let name = file.file_name().expect("a file").to_string_lossy();
+        let name = format!("guide/{name}");
+        assert!(quoted.remove(&name), "the guide doesn't quote {name}");
     }
     assert!(quoted.is_empty(), "{quoted:?}");
 }

@@ -1,5 +1,5 @@
 //! The guide's pictures: they are what the picture program makes of a listing, or what a
-//! quoted command of `why` writes. Bad input of the picture program is refused.
+//! quoted command writes. Bad input of the picture program is refused.
 
 #[path = "../examples/quotes/commands.rs"]
 mod commands;
@@ -9,7 +9,7 @@ use std::collections::BTreeSet;
 use std::path::{Path, PathBuf};
 use std::process::Output;
 
-use commands::Quote;
+use commands::{quotes, Quote};
 use common::{guide_files, root, text};
 use hedjosur_model::testing::run_program;
 
@@ -18,10 +18,9 @@ fn run(arguments: &[&str], input: &[u8]) -> Output {
     run_program(Path::new(env!("CARGO_BIN_EXE_picture")), arguments, input)
 }
 
-/// The pictures that the quoted commands of `why` write.
+/// The pictures that the quoted commands write.
 fn of_quotes() -> Vec<(PathBuf, String)> {
-    let quotes = guide_files("why").into_iter();
-    quotes
+    quotes()
         .flat_map(|file| Quote::anew(&text(&file), &root()).pictures)
         .collect()
 }

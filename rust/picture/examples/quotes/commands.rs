@@ -3,10 +3,18 @@
 use std::ffi::OsString;
 use std::path::{Path, PathBuf};
 
-use hedjosur_picture::command::{Command, Question};
+use hedjosur_picture::command::{Command, Program, Question};
 
-/// How a quoted command begins.
-pub const PROMPT: &str = "$ ./why ";
+use super::common::guide_files;
+
+/// How a quoted command begins, before the name of its program.
+pub const PROMPT: &str = "$ ./";
+
+/// The guide's files of quotes: each has the name of its program as extension.
+pub fn quotes() -> impl Iterator<Item = PathBuf> {
+    let programs = Program::ALL.into_iter();
+    programs.flat_map(|program| guide_files(program.name()))
+}
 
 /// A quote made anew.
 #[derive(Default)]
@@ -34,8 +42,13 @@ impl Quote {
             Some((arguments, file)) => (arguments, Some(root.join(file))),
             None => (command, None),
         };
-        let arguments = arguments.split(' ').map(OsString::from);
-        let Ok(Command::Tell(question)) = Command::read(arguments) else {
+        let mut words = arguments.split(' ');
+        let name = words.next();
+        let program = Program::ALL
+            .into_iter()
+            .find(|one| name == Some(one.name()));
+        let program = program.unwrap_or_else(|| panic!("{line}: there is no such program"));
+        let Ok(Command::Tell(question)) = program.read(words.map(OsString::from)) else {
             panic!("{line}: it asks nothing");
         };
         let script = root.join(&question.script);

@@ -1,5 +1,6 @@
-//! Writes what the guide quotes of `./why` anew: runs the commands of each
-//! docs/guide/NAME.why, and writes that file and the pictures that they make.
+//! Writes what the guide quotes of `./why` and `./cuttings` anew: runs the commands of each
+//! docs/guide/NAME.why and NAME.cuttings, and writes that file and the pictures that they
+//! make.
 
 #![forbid(unsafe_code)]
 
@@ -10,11 +11,11 @@ mod common;
 
 use std::{fs, io};
 
-use commands::Quote;
-use common::{guide_files, root, text};
+use commands::{quotes, Quote};
+use common::{root, text};
 
 fn main() -> io::Result<()> {
-    for file in guide_files("why") {
+    for file in quotes() {
         let quote = Quote::anew(&text(&file), &root());
         fs::write(file, quote.text)?;
         for (picture, drawn) in quote.pictures {

@@ -4,14 +4,17 @@
 //!
 //! - [`listings`]: listings, one below the other
 //! - [`why`]: why a lookup ends where it does
+//! - [`cuttings`]: how a flush can be cut into runs
 //! - [`levels`]: records on levels, and [`pages`]: pages with their spare entries; the
 //!   pieces that pictures are put together from
-//! - [`paper`]: what they are drawn on
+//! - [`paper`]: what they are drawn on; [`slide`]: what those for a slide share
 
+pub mod cuttings;
 pub mod levels;
 pub mod listings;
 pub mod pages;
 pub mod paper;
+pub mod slide;
 pub mod why;
 
 /// What the tests share.
@@ -21,6 +24,17 @@ pub(crate) mod testing {
     pub fn between<'a>(text: &'a str, before: &str, after: &str) -> &'a str {
         let (_, rest) = text.split_once(before).expect(before);
         rest.split_once(after).expect(after).0
+    }
+
+    /// How many elements have a class of this name.
+    pub fn count(picture: &str, class: &str) -> usize {
+        let (_, drawn) = picture.split_once("</defs>").expect("a style sheet");
+        drawn
+            .split("class=\"")
+            .skip(1)
+            .filter_map(|rest| rest.split('"').next())
+            .filter(|classes| classes.split(' ').any(|one| one == class))
+            .count()
     }
 
     /// Every tag that is opened is closed, in order; nothing needs escaping.

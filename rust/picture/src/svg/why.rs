@@ -10,12 +10,10 @@ use hedjosur_model::spare::existing;
 
 use super::levels::{Axis, Drawn, Offsets, Rows};
 use super::pages::{self, Strip};
-use super::paper::{Frame, Paper};
+use super::paper::Paper;
+use super::slide::{self, HEADING, LEFT, LINE, MARGIN};
 use crate::why::{range, Outcome, SpareEntry, Why};
 
-/// Left of the columns: the rows' names. Around all: a margin.
-const LEFT: u32 = 118;
-const MARGIN: u32 = 16;
 const ROWS: Rows = Rows {
     height: 88,
     above: 32,
@@ -23,30 +21,20 @@ const ROWS: Rows = Rows {
     baseline: 7,
     least: 9,
 };
-/// From the top to the heading's baseline, to that of the scale, and to the first row.
-const HEADING: u32 = 40;
+/// From the top to the scale's baseline, and to the first row.
 const SCALE: u32 = 92;
 const LEVELS: u32 = 104;
 /// How many offsets beside the one asked for are shown in any case.
 const NEAR: u8 = 4;
 /// From the columns to the reasons.
 const ASIDE: u32 = 40;
-/// A line of text.
-const LINE: u32 = 30;
-/// About the width of a character: of a label, of other text, of the heading and the
+/// About the width of a character: of a label, of a reason, of the heading and the
 /// answer.
 const LABEL: u32 = 10;
-const TEXT: u32 = 12;
+const REASON: u32 = 12;
 const LARGE: u32 = 15;
 
 const STYLE: &str = "\
-text{font-size:20px}
-.scale{font-size:17px}
-.middle{text-anchor:middle}
-.large{font-size:24px;font-weight:bold}
-.bold{font-weight:bold}
-.label{font-size:17px}
-.small{font-size:14px}
 .free{fill:#fcfcf9;stroke-width:2}
 .accurate.free{stroke:#0f5a9e}
 .approximate.free{stroke:#a8480c}
@@ -77,24 +65,17 @@ pub fn draw(why: &Why) -> String {
     }
     let answer = why.answer();
     paper.text(MARGIN, top + LINE, "large", &answer);
-    let (bottom, legend) = picture.legend(&mut paper, top + 2 * LINE);
+    let (bottom, legend) = slide::legend(&mut paper, top + 2 * LINE, picture.signs(), draw_sign);
     let reasons = why.levels.iter().flat_map(|level| picture.beside(level));
     let longest = reasons.map(|line| line.len()).max().unwrap_or(20) as u32;
     let wide = [
-        picture.axis.end() + ASIDE + TEXT * longest,
+        picture.axis.end() + ASIDE + REASON * longest,
         picture.strip.map_or(0, |strip| strip.end()),
         MARGIN + LARGE * answer.len() as u32,
         legend,
     ];
-    let words = why.to_string();
-    let (_, description) = words.split_once('\n').expect("a line for the question");
-    paper.framed(&Frame {
-        width: wide.into_iter().max().unwrap_or(0) + MARGIN,
-        height: bottom + MARGIN,
-        title: &why.question(),
-        description: &description.trim_end().replace('\n', "; "),
-        style: STYLE,
-    })
+    let right = wide.into_iter().max().unwrap_or(0);
+    slide::framed(paper, &why.to_string(), (right, bottom), STYLE)
 }
 
 /// What is drawn, and where.
@@ -373,25 +354,8 @@ impl<'a> Picture<'a> {
             .any(|page| !self.same_block(page, predicted))
     }
 
-    /// What the signs mean that occur; where it ends, down and to the right.
-    fn legend(&self, paper: &mut Paper, top: u32) -> (u32, u32) {
-        let signs = self.signs();
-        for (y, (sign, words)) in (top..).step_by(LINE as usize).zip(&signs) {
-            match *sign {
-                Sign::Cell(class) => paper.rect(class, [60, y + 4, 24, 22]),
-                Sign::Line(class) => paper.path(class, format_args!("M56 {}h32", y + 15)),
-                Sign::Path => paper.path("path", format_args!("M72 {}v24", y + 3)),
-                Sign::Text(text) => paper.text(72, y + 22, "middle", text),
-            }
-            paper.text(LEFT, y + 22, "", words);
-        }
-        let longest = signs.iter().map(|(_, words)| words.len()).max();
-        let right = LEFT + (TEXT - 1) * longest.unwrap_or(0) as u32;
-        (top + LINE * signs.len() as u32, right)
-    }
-
-    /// The signs that occur, with what they mean.
-    fn signs(&self) -> Vec<(Sign, &'static str)> {
+    /// The signs: whether each occurs, and what it means.
+    fn signs(&self) -> [(bool, Sign, &'static str); 9] {
         let wide = self.axis.is_wide();
         let shown = |one: &&Drawn| self.axis.extent(one.start..=one.end).is_some();
         let records: Vec<&Drawn> = self.levels.iter().flatten().filter(shown).collect();
@@ -403,7 +367,7 @@ impl<'a> Picture<'a> {
             records.iter().any(wanted)
         };
         let (before, behind) = self.left_out();
-        let all = [
+        [
             (
                 any(false, false),
                 Sign::Cell("accurate"),
@@ -449,9 +413,7 @@ impl<'a> Picture<'a> {
                 Sign::Cell("other"),
                 "a page of another block",
             ),
-        ];
-        let occurring = all.into_iter().filter(|(occurs, ..)| *occurs);
-        occurring.map(|(_, sign, words)| (sign, words)).collect()
+        ]
     }
 }
 
@@ -461,6 +423,16 @@ enum Sign {
     Line(&'static str),
     Path,
     Text(&'static str),
+}
+
+/// Draws a sign in the legend's line that starts at this y.
+fn draw_sign(paper: &mut Paper, y: u32, sign: Sign) {
+    match sign {
+        Sign::Cell(class) => paper.rect(class, [60, y + 4, 24, 22]),
+        Sign::Line(class) => paper.path(class, format_args!("M56 {}h32", y + 15)),
+        Sign::Path => paper.path("path", format_args!("M72 {}v24", y + 3)),
+        Sign::Text(text) => paper.text(72, y + 22, "middle", text),
+    }
 }
 
 /// The offsets that a record of a sound group covers.
@@ -487,23 +459,12 @@ fn around(why: &Why, predicted: u32) -> RangeInclusive<i64> {
 mod tests {
     use hedjosur_model::testing::{small_device, Random, World};
 
-    use super::super::testing::{between, tags_match};
+    use super::super::testing::{between, count, tags_match};
     use super::*;
 
     fn picture(world: &World, logical_page: u32) -> String {
         let why = Why::ask(&world.lent, &world.area, logical_page);
         draw(&why.expect("an accepted call"))
-    }
-
-    /// How many elements have a class of this name.
-    fn count(picture: &str, class: &str) -> usize {
-        let (_, drawn) = picture.split_once("</defs>").expect("a style sheet");
-        drawn
-            .split("class=\"")
-            .skip(1)
-            .filter_map(|rest| rest.split('"').next())
-            .filter(|classes| classes.split(' ').any(|one| one == class))
-            .count()
     }
 
     /// The guide's owners: 0, 1, 4, 5 and then 1, 2, 4.
