@@ -5,11 +5,11 @@ use Prim.Native.Nat.{ℕ, _≤_}
 use native.Mathlib.Omega.{arith}
 use lib.ListN.{length, length-map}
 use Rattle.model.specs.Learning.{Write, arrivals, sort, logicals, learn}
-use Rattle.model.specs.NoShorter.{runStart, NoShorter}
+use Rattle.model.specs.NoShorter.{runStart, Learner, NoShorter}
 use Rattle.model.specs.Budget.{Budget}
 use Rattle.model.proofs.NoShorter.{no-shorter}
 use Rattle.cases.specs.Shams.{learnFirst}
-use Rattle.cases.specs.Learners.{Learner, counting, cutsShort, accurateOnly, pageByPage}
+use Rattle.cases.specs.Learners.{counting, cutsShort, accurateOnly, pageByPage}
 
 -- What is learned is a cutting, so no shortest list has more records ..
 at-most : (f : Learner) → NoShorter f → (g p : ℕ) (ws : List Write) → length (f g p (logicals (sort ws))) ≤ length (learn g p (logicals (sort ws)))

@@ -1,17 +1,13 @@
 -- Document 02, i, on small batches: the records that are counted, computed, and ways of learning that are tempting and take more records
 -- or leave pages out; proofs/Learners.antt refutes them. Assumes nothing.
 use mathlib.Core.Path.{_≡_, refl}
-use mathlib.Core.List.{List, [], _∷_, _++_, map}
+use mathlib.Core.List.{[], _∷_, _++_, map}
 use Prim.Native.Nat.{ℕ, suc, _+_, _-_}
 use lib.ListN.{length, take, drop}
-use Rattle.model.specs.Learning.{Run, learn}
-use Rattle.model.specs.NoShorter.{pagesIn, runStart}
+use Rattle.model.specs.Learning.{learn}
+use Rattle.model.specs.NoShorter.{pagesIn, runStart, Learner}
 use Rattle.model.specs.Budget.{goesOn, runsBehind, strideRuns}
 use Rattle.cases.specs.Opens.{everything}
-
--- a way of learning: bound, first page, sorted logical pages
-abbrev pub Learner : Type 0
-Learner = ℕ → ℕ → List ℕ → List Run
 
 -- opens what these theorems compute with, beside `everything`
 unfoldable pub counting : ℕ

@@ -16,6 +16,7 @@ use Rattle.model.specs.Marks.{isMarked}
 use Rattle.model.specs.State.{withMarks, withGroups, groupAt, usedBlocks, lowestFree}
 use Rattle.model.specs.Sound.{isEmpty}
 use Rattle.model.specs.Demand2.{readAt, readBy, readBack}
+use Rattle.model.specs.NoShorter.{Learner}
 use Rattle.calls.specs.Refusals.{_when_, outOfRange, noFreeBlock, notNamed, nothingToGain}
 use Rattle.calls.specs.Outcome.{Lent, withState, withPlan, Answer, flushed, found, notWritten, discarded, collected, refused, Outcome, unless}
 use Rattle.calls.specs.Flush.{flushChecks, writeBlock, flushDone}
@@ -60,7 +61,7 @@ unfoldable pub refusesFlushes : Way
 refusesFlushes = withFlush (λ batch x. unless (flushChecks batch x ++ (noFreeBlock when true ∷ [])) x (flushDone batch x)) defined
 
 -- "One record for the first run and none after"
-unfoldable pub learnFirst : ℕ → ℕ → List ℕ → List Run
+unfoldable pub learnFirst : Learner
 learnFirst g p written = take 1 (learn g p written)
 
 -- "A level count off by one"

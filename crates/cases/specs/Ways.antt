@@ -9,9 +9,10 @@ use lib.ListN.{length}
 use Rattle.model.specs.Lists.{all}
 use Rattle.model.specs.Device.{Device, withinLimits, firstPage, spareLength}
 use Rattle.model.specs.Spare.{programBlock}
-use Rattle.model.specs.Learning.{Run, sorted, logicals}
+use Rattle.model.specs.Learning.{sorted, logicals}
 use Rattle.model.specs.State.{State, freeBlocks}
 use Rattle.model.specs.Demand2.{Demanded}
+use Rattle.model.specs.NoShorter.{Learner}
 use Rattle.calls.specs.Outcome.{Lent, Answer, Outcome, unless}
 use Rattle.calls.specs.Flush.{flushChecks, flushDone}
 use Rattle.calls.specs.Lookup.{lookupChecks, lookupDone}
@@ -67,7 +68,7 @@ abbrev pub Demand1 : Way → Type 0
 Demand1 w = (c : Call) (s : State) (spare : List ℕ) → made w c s spare ≡ run c s spare
 
 -- Demand 2 of a way of learning, as crates/model has it of `learn`.
-abbrev pub Demand2 : (ℕ → ℕ → List ℕ → List Run) → Type 0
+abbrev pub Demand2 : Learner → Type 0
 Demand2 learning = (d : Device) (batch : List ℕ) (k : ℕ) (lent : List ℕ) → withinLimits d ≡ true → length batch ≤ d .B
     → all (λ x. ltb x (d .N)) batch ≡ true → k < d .M → length lent ≡ spareLength d
     → Demanded d batch k (logicals (sorted batch)) (learning (d .g) (firstPage d k) (logicals (sorted batch)))

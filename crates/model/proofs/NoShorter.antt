@@ -137,14 +137,18 @@ learned-records g p k written a = greedy-records k (learn-greedy g p written a)
 pub learned-shortest : (g p : ℕ) (written : List ℕ) → Asc 0 written → Shortest (boundsOf g p written) p written (learn g p written)
 learned-shortest g p written a = record {
   cuts = greedy-cuts greedy;
-  least = λ starts c. omega (arith, ahead (λ k. 1) c, weigh-all (map runStart (learn g p written)), weigh-all starts, length-map (learn g p written) runStart);
-  leastIn = λ k starts c. omega (arith, ahead (λ j. indicator (eqb j k)) c, weigh-group k (map runStart (learn g p written)), weigh-group k starts, learned-records g p k written a);
+  least = λ starts c. omega (arith, ahead (λ k. 1) c, weigh-all learned, weigh-all starts, length-map (learn g p written) runStart);
+  leastIn = λ k starts c.
+      omega (arith, ahead (λ j. indicator (eqb j k)) c, weigh-group k learned, weigh-group k starts, learned-records g p k written a);
 }
   where
     greedy : Greedy (boundsOf g p written) p written (learn g p written)
     greedy = learn-greedy g p written a
 
-    ahead : (w : ℕ → ℕ) {starts : List ℕ} → Cutting (boundsOf g p written) p written starts → weigh w (map runStart (learn g p written)) ≤ weigh w starts
+    learned : List ℕ
+    learned = map runStart (learn g p written)
+
+    ahead : (w : ℕ → ℕ) {starts : List ℕ} → Cutting (boundsOf g p written) p written starts → weigh w learned ≤ weigh w starts
     ahead w c = let e : p + 0 ≡ p = omega arith in greedy-ahead (boundsOf g p written) w c 0 (learn g p written) (rw e greedy)
 
 -- No shorter list of records: what is sorted ascends.

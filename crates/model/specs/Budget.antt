@@ -10,9 +10,9 @@ use lib.Dec.{eqb}
 use lib.ListN.{length}
 use Rattle.model.specs.Device.{ceil, groupOf}
 use Rattle.model.specs.Record.{Record}
-use Rattle.model.specs.Learning.{Write, Run, sort, logicals, recordsFor}
+use Rattle.model.specs.Learning.{Write, sort, logicals, recordsFor}
 use Rattle.model.specs.Levels.{Group, recordCount, takeIn}
-use Rattle.model.specs.NoShorter.{pagesIn, runStart}
+use Rattle.model.specs.NoShorter.{pagesIn, runStart, Learner}
 
 -- "The accurate run goes on while the stride of its first two holds": whether it goes on from page x to page y. Its stride is none
 -- while x is its only page.
@@ -31,7 +31,7 @@ strideRuns [] = []
 strideRuns (x ∷ l) = x ∷ runsBehind none x l
 
 -- THE BUDGET, for pages that are written from page p on.
-pub record Budgeted (p : ℕ) (written : List ℕ) (learning : ℕ → ℕ → List ℕ → List Run) : Type 0 where
+pub record Budgeted (p : ℕ) (written : List ℕ) (learning : Learner) : Type 0 where
   -- a group gets at most one record for each page written there
   pub pages : (g k : ℕ) → length (recordsFor k (learning g p written)) ≤ pagesIn k written
   -- any 2g + 2 pages of a group that follow each other are a run, so it gets at most its pages divided by that, rounded up
@@ -45,7 +45,7 @@ pub record Budgeted (p : ℕ) (written : List ℕ) (learning : ℕ → ℕ → L
   pub largerIn : (g h : ℕ) → g ≤ h → (k : ℕ) → length (recordsFor k (learning h p written)) ≤ length (recordsFor k (learning g p written))
 
 -- The budget of a way of learning: on every block, of whatever is written once it is sorted.
-abbrev pub Budget : (ℕ → ℕ → List ℕ → List Run) → Type 0
+abbrev pub Budget : Learner → Type 0
 Budget learning = (p : ℕ) (ws : List Write) → Budgeted p (logicals (sort ws)) learning
 
 -- What is learned is not what is held: a group that takes records in holds at most so many more than before, compacted first or not.

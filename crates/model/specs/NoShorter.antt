@@ -41,8 +41,12 @@ pub record Shortest (b : Bounds) (p : ℕ) (written : List ℕ) (rs : List Run) 
   -- .. nor in any group
   pub leastIn : (k : ℕ) (starts : List ℕ) → Cutting b p written starts → length (recordsFor k rs) ≤ pagesIn k starts
 
+-- a way of learning: bound, first page, sorted logical pages
+abbrev pub Learner : Type 0
+Learner = ℕ → ℕ → List ℕ → List Run
+
 -- No shorter list, of a way of learning: at every bound, on every block, of whatever is written once it is sorted. A flush writes
 -- `sorted batch`, which is `sort` of its arrivals; a collection, `sort` of what it moves.
-abbrev pub NoShorter : (ℕ → ℕ → List ℕ → List Run) → Type 0
+abbrev pub NoShorter : Learner → Type 0
 NoShorter learning = (g p : ℕ) (ws : List Write)
     → Shortest (boundsOf g p (logicals (sort ws))) p (logicals (sort ws)) (learning g p (logicals (sort ws)))
