@@ -51,7 +51,7 @@ module _ (m : Record → ℕ) where
   total-sink s (l ∷ g) = go (meetsAny s l) refl
     where
       go : (t : Bool) → meetsAny s l ≡ t → total m (listing (sink s (l ∷ g))) ≡ m s + total m (l ++ listing g)
-      go true e = rw (e, sink) refl
+      go true e = rw (e, sink) (omega (arith, into-total s l g))
       go false e = rw (e, sink) (into-total s l g)
 
   total-sinkAll : (l : List Record) (g : Group) → total m (listing (sinkAll l g)) ≡ total m l + total m (listing g)
@@ -87,7 +87,7 @@ module _ (m : Record → ℕ) (d : Lessens m) where
   total-giveUp lost (s ∷ l) = go (isApproximate (kind s)) refl (total-giveUp lost l)
     where
       go : (t : Bool) → isApproximate (kind s) ≡ t → total m (giveUp lost l) ≤ total m l → total m (giveUp lost (s ∷ l)) ≤ total m (s ∷ l)
-      go true e ih = rw (e, giveUp) (total-keep lost s l (giveUp lost l) ih)
+      go true e ih = rw (e, giveUp) (omega (arith, ih, total-keep lost s l (giveUp lost l) ih))
       go false e ih = rw (e, giveUp) (omega arith)
 
   total-giveUps : (lost : ℕ → Bool) (g : Group) → total m (listing (map (giveUp lost) g)) ≤ total m (listing g)
