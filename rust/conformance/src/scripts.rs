@@ -72,28 +72,13 @@ fn any_script(random: &mut Random) -> Vec<u8> {
 
 /// A device that the program takes: small, document 01's, or as large as it takes
 /// (N 1,024; 8,192 spare entries).
-pub fn any_device(random: &mut Random) -> Device {
+fn any_device(random: &mut Random) -> Device {
     match random.below(6) {
         0 => full_device(random.between(3, 9), 64, random.below(4)),
         1 => Device::new([32, 256, 1024, 0]).expect("numbers inside their limits"),
         2 => Device::new([2048, 4, 1024, 0]).expect("numbers inside their limits"),
         _ => small_device(random),
     }
-}
-
-/// Numbers for a format: one past what the program takes, or past the limits of a
-/// device, or these of a device again.
-pub fn any_numbers(random: &mut Random, device: &Device) -> [u32; 4] {
-    random.pick(&[
-        [32, 256, 1025, 0],
-        [33, 256, 1024, 0],
-        [32, 256, 1024, 1],
-        [2, 4, 1, 0],
-        [3, 4, 5, 0],
-        [9, 64, 256, 16],
-        [99_999_999; 4],
-        device.numbers(),
-    ])
 }
 
 /// Any call, mostly one that is accepted.
@@ -116,7 +101,17 @@ fn any_call(random: &mut Random, device: &Device) -> Vec<u8> {
         10 | 11 => line(random, 4, &[]),
         12 => line(random, 5, &[group]),
         13 => {
-            let numbers = any_numbers(random, device);
+            // One past what the program takes, or past the limits of a device.
+            let numbers = random.pick(&[
+                [32, 256, 1025, 0],
+                [33, 256, 1024, 0],
+                [32, 256, 1024, 1],
+                [2, 4, 1, 0],
+                [3, 4, 5, 0],
+                [9, 64, 256, 16],
+                [99_999_999; 4],
+                device.numbers(),
+            ]);
             line(random, 1, &numbers)
         }
         14 => line(random, 3, &[99_999_999]),

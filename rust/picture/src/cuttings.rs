@@ -13,12 +13,9 @@ use std::ops::Range;
 use hedjosur_baseline::learn::{parts, Learner, Run};
 use hedjosur_model::record::Kind;
 
-use crate::trace::Flush;
+use crate::replay::Flush;
 use crate::words::counted;
 
-/// The most pages of a flush whose cuttings are counted: there are up to 2 to the power of
-/// one less.
-pub const MOST_PAGES: usize = 64;
 /// How many others with as few records are told.
 const OTHERS: usize = 5;
 /// How many numbers of cuttings are told before some are left out.
@@ -41,7 +38,7 @@ pub struct Cuttings<'a> {
 }
 
 impl<'a> Cuttings<'a> {
-    /// The cuttings of a flush of at most [`MOST_PAGES`] pages.
+    /// The cuttings of a flush of a script, which has at most 64 pages.
     pub fn of(flush: &'a Flush) -> Cuttings<'a> {
         let learned = parts(&flush.sorted).flat_map(|group| runs(flush, group));
         let place = |run: &Run| usize::from(run.place);

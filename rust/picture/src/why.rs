@@ -5,12 +5,11 @@ use std::fmt::{self, Display, Formatter};
 
 use hedjosur_model::device::{group_of, offset_of, Device};
 use hedjosur_model::levels::Group;
-use hedjosur_model::ops::{self, Lookup, Reason, Refusal, WhyEntry};
+use hedjosur_model::ops::{self, Reason, Refusal, WhyEntry};
 use hedjosur_model::record::{Kind, Record};
 use hedjosur_model::spare::{self, NOBODY};
 use hedjosur_model::state::Lent;
 
-use crate::chip;
 use crate::words::{self, counted};
 
 /// What is told of a logical page. It is displayed as lines for a person.
@@ -26,10 +25,7 @@ pub struct Why<'a> {
     pub levels: Vec<WhyEntry<'a>>,
     /// What comes of it.
     pub outcome: Outcome,
-    /// What the lookup answers; it is refused 7 or not at all.
-    pub found: Result<Lookup, Refusal>,
     area: &'a [u32],
-    marks: &'a [bool],
 }
 
 /// What a lookup makes of the last level that it looks at.
@@ -66,8 +62,7 @@ impl<'a> Why<'a> {
     /// Asks why, of a state with its spare area. It refuses as a lookup does, but for 7,
     /// which is an outcome.
     pub fn ask(lent: &'a Lent, area: &'a [u32], logical_page: u32) -> Result<Why<'a>, Refusal> {
-        let found = ops::lookup(lent, area, logical_page);
-        let page = match found {
+        let page = match ops::lookup(lent, area, logical_page) {
             Ok(found) => found.page(),
             Err(Refusal::NotNamed) => None,
             Err(refusal) => return Err(refusal),
@@ -91,20 +86,13 @@ impl<'a> Why<'a> {
             group: &state.groups[group_of(logical_page)],
             levels,
             outcome,
-            found,
             area,
-            marks: &state.marks,
         })
     }
 
     /// The offset of the logical page in its group.
     pub fn offset(&self) -> u8 {
         offset_of(self.logical_page)
-    }
-
-    /// The offsets of the group whose logical pages are discarded.
-    pub fn discarded(&self) -> Vec<u8> {
-        chip::discarded(self.marks, group_of(self.logical_page))
     }
 
     /// The spare entries of a page, in order. 'An entry for a page that doesn't exist

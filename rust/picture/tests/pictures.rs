@@ -1,47 +1,57 @@
-//! The guide's pictures and pages: each is what one quoted command writes, and the guide
-//! shows it.
+//! The guide's pictures: they are what the picture program makes of a listing, or what a
+//! quoted command writes. Bad input of the picture program is refused.
 
 #[path = "../examples/quotes/commands.rs"]
 mod commands;
 mod common;
 
-use std::collections::BTreeMap;
+use std::collections::BTreeSet;
 use std::path::{Path, PathBuf};
+use std::process::Output;
 
-use commands::{question, quotes, Quote};
+use commands::{quotes, Quote};
 use common::{guide_files, root, text};
+use hedjosur_model::testing::run_program;
 
-/// The pictures and pages of the guide.
-fn stored() -> Vec<PathBuf> {
-    ["svg", "html"].into_iter().flat_map(guide_files).collect()
+/// Runs the picture program.
+fn run(arguments: &[&str], input: &[u8]) -> Output {
+    run_program(Path::new(env!("CARGO_BIN_EXE_picture")), arguments, input)
 }
 
-/// A file of docs/guide as the guide refers to it.
-fn target(file: &Path) -> String {
-    format!(
-        "guide/{}",
-        file.file_name().expect("a name").to_string_lossy()
-    )
+/// The pictures that the quoted commands write.
+fn of_quotes() -> Vec<(PathBuf, String)> {
+    quotes()
+        .flat_map(|file| Quote::anew(&text(&file), &root()).pictures)
+        .collect()
 }
 
 #[test]
-fn every_picture_is_written_by_one_quoted_command() {
-    let mut written = BTreeMap::new();
-    for file in quotes() {
-        for (target, drawn) in Quote::anew(&text(&file), &root()).written {
-            assert_eq!(drawn, text(&target), "{target:?} is not what is drawn");
-            let other = written.insert(target.clone(), drawn);
-            assert!(other.is_none(), "two commands write {target:?}");
-        }
+fn every_picture_is_made_from_its_listing_or_by_a_quoted_command() {
+    let quoted = of_quotes();
+    let targets: BTreeSet<&PathBuf> = quoted.iter().map(|(target, _)| target).collect();
+    assert_eq!(targets.len(), quoted.len(), "two commands write one file");
+    for (target, drawn) in &quoted {
+        assert_eq!(*drawn, text(target), "{target:?} is not what is drawn");
     }
-    let written: Vec<PathBuf> = written.into_keys().collect();
-    let mut stored = stored();
-    stored.sort();
-    assert_eq!(written, stored);
+    for picture in guide_files("svg") {
+        if targets.contains(&picture) {
+            continue;
+        }
+        let listing = text(&picture.with_extension("listing"));
+        let output = run(&[], listing.as_bytes());
+        assert!(output.status.success(), "{}", picture.display());
+        let drawn = String::from_utf8(output.stdout).expect("it prints text");
+        assert_eq!(
+            drawn,
+            text(&picture),
+            "{} is not what the program makes of its listing",
+            picture.display()
+        );
+    }
 }
 
-/// Each picture stands in the guide, with words for those who don't see it, and the guide
-/// shows no other. To each page there is a link.
+/// Each picture stands in the guide, with words for those who don't see it, and
+/// the guide shows no other.
 #[test]
 fn the_guide_shows_every_picture() {
     let guide = text(&root().join("docs/GUIDE.md"));
@@ -51,49 +61,43 @@ fn the_guide_shows_every_picture() {
         .collect();
     assert_eq!(guide.matches("![").count(), shown.len());
     for picture in guide_files("svg") {
-        let target = target(&picture);
+        let name = picture.file_name().expect("a file").to_string_lossy();
+        let target = format!("guide/{name}");
         let words = shown.iter().find(|(_, path)| *path == target);
         let (words, _) = words.unwrap_or_else(|| panic!("the guide doesn't show {target}"));
         assert!(words.len() > 20, "{target}: \"{words}\"");
     }
     assert_eq!(shown.len(), guide_files("svg").len());
-    for page in guide_files("html") {
-        assert!(guide.contains(&format!("]({})", target(&page))), "{page:?}");
-    }
-}
-
-/// Each numbered section has a picture, and so has each other one that isn't about commands.
-#[test]
-fn every_chapter_has_a_picture() {
-    let guide = text(&root().join("docs/GUIDE.md"));
-    let mut numbered = 0;
-    for chapter in guide.split("\n## ").skip(1) {
-        let heading = chapter.lines().next().expect("a heading");
-        let is_numbered = heading.starts_with(|c: char| c.is_ascii_digit());
-        numbered += u32::from(is_numbered);
-        let shows = chapter.contains("\n![") || chapter.contains(".html)");
-        let plain = [
-            "Write a script and run it",
-            "Three tables to keep at hand",
-            "Further",
-        ];
-        assert!(
-            shows || plain.contains(&heading),
-            "{heading} has no picture"
-        );
-    }
-    assert!(numbered >= 15);
 }
 
 #[test]
-fn what_asks_nothing_is_no_command() {
-    for command in [
-        "",
-        "lists x.script",
-        "why x.script",
-        "list --help",
-        "picture",
-    ] {
-        assert!(question(command).is_err(), "{command}");
+fn bad_input_is_refused_with_a_message() {
+    let head = " LEVEL START  SPAN  WORD INTERCEPT\n";
+    let refused = head.to_string() + "refused 6\n";
+    let cases: [(&[&str], &[u8], &str); 5] = [
+        (&[], b"", "picture: there is no listing: the input is empty\n"),
+        (
+            &[],
+            b"bad line\n",
+            "picture: line 1: a listing starts with the head line \" LEVEL START  SPAN  WORD INTERCEPT\"\n",
+        ),
+        (
+            &[],
+            refused.as_bytes(),
+            "picture: line 2: \"refused 6\" is not a record: \
+             five numbers, right-justified in widths 6, 6, 6, 6 and 10\n",
+        ),
+        (&[], b"\xff\n", "picture: the input is not text\n"),
+        (
+            &["group.listing"],
+            head.as_bytes(),
+            "picture: it reads a listing on standard input and takes no argument\n",
+        ),
+    ];
+    for (arguments, input, message) in cases {
+        let output = run(arguments, input);
+        assert_eq!(String::from_utf8_lossy(&output.stderr), message);
+        assert_eq!(output.status.code(), Some(1), "{message}");
+        assert!(output.stdout.is_empty(), "{message}");
     }
 }

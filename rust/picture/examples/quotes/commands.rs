@@ -3,7 +3,7 @@
 use std::ffi::OsString;
 use std::path::{Path, PathBuf};
 
-use hedjosur_picture::command::{Command, Program, Question, Topic};
+use hedjosur_picture::command::{Command, Program, Question};
 
 use super::common::guide_files;
 
@@ -16,25 +16,13 @@ pub fn quotes() -> impl Iterator<Item = PathBuf> {
     programs.flat_map(|program| guide_files(program.name()))
 }
 
-/// What a command asks: the words behind `./`, without the file that it writes.
-pub fn question(command: &str) -> Result<Question, String> {
-    let mut words = command.split_whitespace();
-    let name = words.next().unwrap_or_default();
-    let program = Program::ALL.into_iter().find(|one| one.name() == name);
-    let program = program.ok_or(format!("there is no program {name:?}"))?;
-    match program.read(words.map(OsString::from))? {
-        Command::Tell(question) => Ok(question),
-        Command::Help => Err("it asks nothing".into()),
-    }
-}
-
 /// A quote made anew.
 #[derive(Default)]
 pub struct Quote {
     /// Its commands, each with the words that it prints.
     pub text: String,
-    /// The files that commands write, pictures and pages, each with its text.
-    pub written: Vec<(PathBuf, String)>,
+    /// The files that commands write, each with its picture.
+    pub pictures: Vec<(PathBuf, String)>,
 }
 
 impl Quote {
@@ -50,37 +38,29 @@ impl Quote {
     }
 
     fn add(&mut self, line: &str, command: &str, root: &Path) {
-        let (command, file) = match command.split_once(" > ") {
-            Some((command, file)) => (command, Some(root.join(file))),
+        let (arguments, file) = match command.split_once(" > ") {
+            Some((arguments, file)) => (arguments, Some(root.join(file))),
             None => (command, None),
         };
-        let asked = question(command).unwrap_or_else(|message| panic!("{line}: {message}"));
-        let asked = Question {
-            script: root.join(&asked.script),
-            topic: by_model(asked.topic),
-            lines: asked.lines,
+        let mut words = arguments.split(' ');
+        let name = words.next();
+        let program = Program::ALL
+            .into_iter()
+            .find(|one| name == Some(one.name()));
+        let program = program.unwrap_or_else(|| panic!("{line}: there is no such program"));
+        let Ok(Command::Tell(question)) = program.read(words.map(OsString::from)) else {
+            panic!("{line}: it asks nothing");
         };
-        let told = asked.tell();
-        let told = told.unwrap_or_else(|failure| panic!("{line}: {failure:?}"));
+        let script = root.join(&question.script);
+        let told = Question { script, ..question }.tell();
+        let told = told.unwrap_or_else(|message| panic!("{line}: {message}"));
         if !self.text.is_empty() {
             self.text.push('\n');
         }
         self.text += &format!("{line}\n");
         match file {
-            Some(file) => self.written.push((file, told.text)),
+            Some(file) => self.pictures.push((file, told.text)),
             None => self.text += &told.text,
         }
-    }
-}
-
-/// A listing by the model, which prints the same as the proved program; a test of the guide
-/// holds its scripts to that.
-fn by_model(topic: Topic) -> Topic {
-    match topic {
-        Topic::List { answers, .. } => Topic::List {
-            answers,
-            model: true,
-        },
-        other => other,
     }
 }

@@ -310,7 +310,7 @@ mod tests {
 
     use super::super::testing::{between, count, tags_match};
     use super::*;
-    use crate::trace::Flush;
+    use crate::replay::Flush;
 
     fn picture(sorted: &[u32], bound: u32) -> String {
         let flush = Flush {

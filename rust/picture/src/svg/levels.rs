@@ -1,781 +1,485 @@
 //! Records on levels: levels as rows, level 0 on top, and offsets as columns.
 //!
-//! A record is a shape of its own over its range, tinted if it is accurate and hatched if it
-//! is approximate. A member is a solid cell on it, a hollow one where a record above hides
-//! it; an offset that is covered and no member has no cell. What went by a call is dashed,
-//! in a lane below the level that it went from.
+//! An accurate record is a cell for each member on a thin line over its range; a single is
+//! one cell. An approximate record is a cell for each member on a hatched bar. Where
+//! columns are wide enough, an offset that is covered and is no member is an empty cell.
 
-use std::collections::BTreeSet;
+use std::ops::RangeInclusive;
 
-use hedjosur_model::record::Record;
+use hedjosur_model::record::{self, Kind};
 
-use super::axis::{Axis, Offsets};
-use super::labels::{width, Label, Place, Shelf, NEXT_LINE};
 use super::paper::Paper;
-use super::slide::{Sign, MARGIN};
-use crate::changes::{Changes, Fate, Ghost, Row};
-use crate::words::ranges;
+use crate::listing;
+
+/// Columns that are narrower have no empty cells.
+const WIDE: u32 = 10;
+/// The widest and the narrowest column of a zoomed axis, and the room for all columns.
+const COLUMNS: RangeInclusive<u32> = 3..=52;
+const ROOM: u32 = 780;
+/// What a stretch left out takes instead.
+const BREAK: u32 = 56;
+/// The fewest offsets that are worth a break: where columns are wide, and where they are
+/// narrow.
+const LEFT_OUT: [u8; 2] = [4, 20];
+/// The least distance of two numbers of the scale.
+const APART: u32 = 40;
+
+/// Offsets as columns, in ascending runs; other offsets are left out.
+#[derive(Clone, Debug, PartialEq, Eq)]
+pub struct Axis {
+    left: u32,
+    column: u32,
+    runs: Vec<RangeInclusive<u8>>,
+}
+
+/// A range of offsets.
+pub type Offsets = RangeInclusive<u8>;
+
+impl Axis {
+    /// All offsets from this x on, each a column of this width.
+    pub fn whole(left: u32, column: u32) -> Axis {
+        Axis {
+            left,
+            column,
+            runs: vec![0..=255],
+        }
+    }
+
+    /// Offsets in use and a margin, with columns as wide as there is room for. Where these
+    /// are narrow and would be wide for some of the offsets, those on which the picture
+    /// centres, it has these alone.
+    pub fn zoomed(left: u32, used: &[Offsets], centre: &[Offsets]) -> Axis {
+        let axes = [used, centre].map(|ranges| Axis::fitting(left, ranges));
+        let [all, some] = axes;
+        match some.is_wide() && !all.is_wide() {
+            true => some,
+            false => all,
+        }
+    }
+
+    /// These offsets and a margin, with columns as wide as there is room for.
+    fn fitting(left: u32, ranges: &[Offsets]) -> Axis {
+        let [short, long] = LEFT_OUT.map(|fewest| Axis::broken(left, ranges, fewest));
+        match short.is_wide() {
+            true => short,
+            false => long,
+        }
+    }
+
+    /// These offsets and a margin, with a break where so many others lie between.
+    fn broken(left: u32, ranges: &[Offsets], fewest: u8) -> Axis {
+        let mut shown = [false; 256];
+        for range in ranges {
+            let margin = range.start().saturating_sub(1)..=range.end().saturating_add(1);
+            margin.for_each(|offset| shown[usize::from(offset)] = true);
+        }
+        let mut runs: Vec<Offsets> = Vec::new();
+        for offset in (0..=255).filter(|&offset| shown[usize::from(offset)]) {
+            match runs.last_mut() {
+                Some(run) if offset - run.end() <= fewest => *run = *run.start()..=offset,
+                _ => runs.push(offset..=offset),
+            }
+        }
+        let offsets: u32 = runs.iter().map(|run| run.len() as u32).sum();
+        let breaks = runs.len().saturating_sub(1) as u32 * BREAK;
+        let column = ROOM.saturating_sub(breaks) / offsets.max(1);
+        Axis {
+            left,
+            column: column.clamp(*COLUMNS.start(), *COLUMNS.end()),
+            runs,
+        }
+    }
+
+    /// Whether an offset has a column.
+    pub fn shows(&self, offset: u8) -> bool {
+        self.runs.iter().any(|run| run.contains(&offset))
+    }
+
+    /// The first and the last offset shown; 255 and 0 where there is none.
+    pub fn ends(&self) -> (u8, u8) {
+        let first = self.runs.first().map_or(255, |run| *run.start());
+        (first, self.runs.last().map_or(0, |run| *run.end()))
+    }
+
+    /// From the left edge of the first cell to the right edge of the last, of those of
+    /// these offsets that are shown.
+    pub fn extent(&self, offsets: Offsets) -> Option<(u32, u32)> {
+        let mut shown = offsets.filter(|&offset| self.shows(offset));
+        let first = shown.next()?;
+        let last = shown.next_back().unwrap_or(first);
+        Some((self.x(first), self.x(last) + self.cell()))
+    }
+
+    /// The left edge of an offset's column, of an offset that is shown.
+    pub fn x(&self, offset: u8) -> u32 {
+        let mut x = self.left;
+        for run in &self.runs {
+            if offset <= *run.end() {
+                return x + u32::from(offset.saturating_sub(*run.start())) * self.column;
+            }
+            x += run.len() as u32 * self.column + BREAK;
+        }
+        x - BREAK
+    }
+
+    /// The part of a column that a cell fills.
+    pub fn cell(&self) -> u32 {
+        self.column - (self.column / 4).max(1)
+    }
+
+    /// The middle of an offset's cell.
+    pub fn middle(&self, offset: u8) -> u32 {
+        self.x(offset) + self.cell() / 2
+    }
+
+    /// A column's width.
+    pub fn column(&self) -> u32 {
+        self.column
+    }
+
+    /// The left edge of the first column.
+    pub fn left(&self) -> u32 {
+        self.left
+    }
+
+    /// The right edge of the last column.
+    pub fn end(&self) -> u32 {
+        self.runs
+            .last()
+            .map_or(self.left, |run| self.x(*run.end()) + self.column)
+    }
+
+    /// Whether columns are wide enough for empty cells.
+    pub fn is_wide(&self) -> bool {
+        self.column >= WIDE
+    }
+
+    /// The middles of the stretches that are left out.
+    pub fn breaks(&self) -> Vec<u32> {
+        let later = self.runs.iter().skip(1);
+        later.map(|run| self.x(*run.start()) - BREAK / 2).collect()
+    }
+
+    /// Offsets to be numbered: this one, and others as they have room.
+    pub fn numbered(&self, asked: u8) -> Vec<u8> {
+        let steps = [1, 2, 4, 8, 16, 32];
+        let step = steps
+            .into_iter()
+            .find(|&step| u32::from(step) * self.column >= APART);
+        let far = |offset: u8| self.x(offset).abs_diff(self.x(asked)) >= APART;
+        self.runs
+            .iter()
+            .flat_map(|run| run.clone())
+            .filter(|&offset| offset == asked || offset % step.unwrap_or(64) == 0 && far(offset))
+            .collect()
+    }
+}
 
 /// A record as it is drawn.
 #[derive(Clone, Debug, PartialEq, Eq)]
 pub struct Drawn {
-    /// The record, which is sound.
-    pub record: Record,
-    /// Its members that no record above has, ascending.
+    /// S, the first offset covered.
+    pub start: u8,
+    /// S + L, the last.
+    pub end: u8,
+    /// The kind.
+    pub kind: Kind,
+    /// I.
+    pub intercept: i32,
+    /// The members that are known, ascending.
     pub members: Vec<u8>,
-    /// The others, which a lookup doesn't come to.
-    pub hidden: Vec<u8>,
-    /// Whether it is new by the call that is shown.
-    pub is_new: bool,
+    /// Whether these are all.
+    pub complete: bool,
+}
+
+impl From<&listing::Record> for Drawn {
+    fn from(record: &listing::Record) -> Drawn {
+        Drawn {
+            start: record.start,
+            end: record.end(),
+            kind: record.kind,
+            intercept: record.intercept,
+            members: record.shown_members(),
+            complete: !matches!(record.kind, Kind::Approximate { .. }),
+        }
+    }
+}
+
+impl From<&record::Record> for Drawn {
+    /// Of a record that is sound.
+    fn from(record: &record::Record) -> Drawn {
+        Drawn {
+            start: record.start,
+            end: record.start + record.span,
+            kind: record.kind().expect("a sound record has a kind"),
+            intercept: record.intercept,
+            members: record.members().into_iter().collect(),
+            complete: true,
+        }
+    }
 }
 
 impl Drawn {
-    /// The offsets that it covers.
-    pub fn covered(&self) -> Offsets {
-        covered(&self.record)
-    }
-
-    /// Whether it covers an offset that is no member of it.
-    pub fn is_open(&self) -> bool {
-        self.members.len() + self.hidden.len() < self.covered().len()
-    }
-
-    /// Whether it is approximate.
-    pub fn is_approximate(&self) -> bool {
-        self.record.is_approximate()
-    }
-
     /// The record in words.
     pub fn in_words(&self) -> String {
-        let hidden = match self.hidden.as_slice() {
-            [] => String::new(),
-            hidden => format!(", {} hidden", offsets(hidden)),
-        };
-        let owned = match self.is_approximate() {
-            true => format!(
-                ", owns {}",
-                offsets(&self.record.members().into_iter().collect::<Vec<_>>())
-            ),
-            false => String::new(),
-        };
-        let Label { range, kind, pages } = Label::of(&self.record);
-        format!("{range}, {kind}, {pages}{owned}{hidden}")
-    }
-}
-
-/// The offsets that a record of a sound group covers.
-pub fn covered(record: &Record) -> Offsets {
-    record.start..=record.start + record.span
-}
-
-/// Offsets with ranges for those that follow each other.
-fn offsets(offsets: &[u8]) -> String {
-    ranges(&Vec::from_iter(offsets.iter().copied().map(u32::from)))
-}
-
-/// A level, or one that vanished, laid out.
-#[derive(Clone, Debug, PartialEq, Eq)]
-struct Laid {
-    /// The upper edge.
-    y: u32,
-    name: String,
-    records: Vec<Drawn>,
-    ghosts: Vec<Ghost>,
-}
-
-/// Above a level's cells: its records' labels. Then a cell, and room below.
-const ABOVE: u32 = 54;
-const CELL: u32 = 32;
-const BELOW: u32 = 16;
-/// Above a lane's cells: the labels of what went. Then a cell, and room below.
-const LANE_ABOVE: u32 = 24;
-const LANE_CELL: u32 = 18;
-const LANE_BELOW: u32 = 14;
-/// The length of the line through the number of a discarded offset.
-const STRIKE: u32 = 28;
-/// Behind the last column: the sign that offsets are left out.
-const BEHIND: u32 = 36;
-/// How far a shape stands out around its cells.
-const OUT: u32 = 4;
-/// The least width of a lone cell, as far as its neighbours leave room.
-const LEAST: u32 = 14;
-/// From a row's middle down to the baseline of its name.
-const BASELINE: u32 = 7;
-
-/// The rules for what is drawn here.
-pub const STYLE: &str = "\
-.tint{fill:#d6e5f3;stroke:#0f5a9e;stroke-width:2}
-.bar{fill:url(#hatch);stroke:#a8480c;stroke-width:2}
-.hidden{fill:#fcfcf9;stroke-width:3}
-.exact{stroke:#0f5a9e}
-.rough{stroke:#a8480c}
-.new{fill:#ffe08a}
-.ghost{fill:none;stroke:#4a4a46;stroke-width:2;stroke-dasharray:5 4}
-.strike{stroke:#1c1c1a;stroke-width:2}
-.more{font-size:24px;font-weight:bold}
-.went{font-size:16px;font-style:italic;fill:#4a4a46}
-";
-
-/// The levels of a group, laid out.
-#[derive(Clone, Debug, PartialEq, Eq)]
-pub struct Levels {
-    /// The columns.
-    pub axis: Axis,
-    rows: Vec<Laid>,
-    bottom: u32,
-    discarded: Vec<u8>,
-}
-
-/// What a picture of a lookup has besides: its way goes down a column.
-#[derive(Clone, Copy, Debug, Default)]
-pub struct Way<'a> {
-    /// The x of the column.
-    pub column: u32,
-    /// The record that covers the offset, for each level that is looked at.
-    pub met: &'a [Option<&'a Record>],
-}
-
-impl Levels {
-    /// Lays levels out from this y on.
-    pub fn new(axis: Axis, top: u32, changes: &Changes) -> Levels {
-        let (mut y, mut rows) = (top, Vec::new());
-        let mut above = BTreeSet::new();
-        for row in &changes.rows {
-            rows.push(Laid {
-                y,
-                name: match (row.level, row.was) {
-                    (Some(level), _) => format!("level {level}"),
-                    (None, Some(level)) => format!("was level {level}"),
-                    (None, None) => String::new(),
-                },
-                records: drawn(row, &above),
-                ghosts: row.ghosts.clone(),
-            });
-            above.extend(row.records.iter().flat_map(|(record, _)| record.members()));
-            y += height(row);
-        }
-        if rows.is_empty() {
-            y += ABOVE + CELL + BELOW;
-        }
-        Levels {
-            axis,
-            rows,
-            bottom: y,
-            discarded: Vec::new(),
+        let (start, end) = (self.start, self.end);
+        match self.kind {
+            Kind::Single => format!("single {start}"),
+            Kind::Accurate { stride } => format!("accurate {start} to {end}, stride {stride}"),
+            Kind::Approximate { slope } => {
+                format!("approximate {start} to {end}, slope {slope}/256")
+            }
         }
     }
 
-    /// The same with these offsets struck out in the scale: their logical pages are
-    /// discarded.
-    pub fn striking(self, discarded: Vec<u8>) -> Levels {
-        Levels { discarded, ..self }
+    /// The offsets that are covered and known to be no members.
+    pub fn free(&self) -> Vec<u8> {
+        let free = |offset: &u8| self.complete && !self.members.contains(offset);
+        (self.start..=self.end).filter(free).collect()
+    }
+}
+
+/// The sizes of rows.
+#[derive(Clone, Copy, Debug)]
+pub struct Rows {
+    /// A row's height.
+    pub height: u32,
+    /// Of it, room above its cells.
+    pub above: u32,
+    /// The height of a cell.
+    pub cell: u32,
+    /// From a row's middle down to the baseline of its name.
+    pub baseline: u32,
+    /// The least width of a member's cell, as far as its neighbours leave room.
+    pub least: u32,
+}
+
+impl Rows {
+    /// The upper edge of the cells of a row that starts here.
+    pub fn cells(&self, y: u32) -> u32 {
+        y + self.above + (self.height - self.above - self.cell) / 2
     }
 
-    /// Those of them that have a column.
-    fn struck(&self) -> impl Iterator<Item = u8> + '_ {
-        let discarded = self.discarded.iter().copied();
-        discarded.filter(|&offset| self.axis.shows(offset))
+    /// The middle of the cells of a row that starts here.
+    pub fn middle(&self, y: u32) -> u32 {
+        self.cells(y) + self.cell / 2
     }
 
-    /// The offsets that these changes are about: all that are covered or were, and those
-    /// that changed.
-    pub fn used(changes: &Changes) -> [Vec<Offsets>; 2] {
-        let rows = || changes.rows.iter();
-        let old = rows().flat_map(|row| row.records.iter().map(|(record, _)| covered(record)));
-        let ghosts = || rows().flat_map(|row| row.ghosts.iter().map(|one| covered(&one.record)));
-        let new = rows().flat_map(|row| row.put_in().map(covered));
-        [old.chain(ghosts()).collect(), new.chain(ghosts()).collect()]
+    /// How many rows these levels take: a group without records has one, which says so.
+    pub fn count(levels: &[Vec<Drawn>]) -> u32 {
+        levels.len().max(1) as u32
     }
 
-    /// The records, from the top level down.
-    pub fn records(&self) -> impl Iterator<Item = &Drawn> {
-        self.rows.iter().flat_map(|row| &row.records)
-    }
-
-    /// Those of them that are shown.
-    fn shown(&self) -> impl Iterator<Item = &Drawn> {
-        let records = self.records();
-        records.filter(|one| self.axis.extent(one.covered()).is_some())
-    }
-
-    /// Draws the offsets' numbers on this baseline, one that is asked for in bold, and where
-    /// offsets are left out.
-    pub fn scale(&self, paper: &mut Paper, y: u32, asked: Option<u8>) {
-        let axis = &self.axis;
-        paper.text(MARGIN, y, "scale", "offset");
-        for offset in axis.numbered(asked) {
-            let class = match asked == Some(offset) {
-                true => "scale middle bold",
-                false => "scale middle",
+    /// Draws levels, each with its name, from this y on.
+    pub fn draw(&self, paper: &mut Paper, axis: &Axis, top: u32, levels: &[Vec<Drawn>]) {
+        for level in 0..Rows::count(levels) {
+            let y = top + level * self.height;
+            let name = match levels.is_empty() {
+                true => "no record".to_string(),
+                false => format!("level {level}"),
             };
-            paper.text(axis.middle(offset), y, class, &offset.to_string());
-        }
-        for offset in self.struck() {
-            let (x, y) = (axis.middle(offset) - STRIKE / 2, y - 6);
-            paper.path("strike", format_args!("M{x} {y}h{STRIKE}"));
-        }
-        for (offsets, x) in axis.left_out() {
-            let is_break = *offsets.start() > 0 && *offsets.end() < u8::MAX;
-            if is_break || self.records().any(|one| meet(&one.covered(), &offsets)) {
-                paper.text(x, y, "scale middle", "…");
-            }
+            paper.text(16, self.middle(y) + self.baseline, "", &name);
+            let records = levels.get(level as usize);
+            self.row(paper, axis, y, level, records.map_or(&[], Vec::as_slice));
         }
     }
 
-    /// Whether offsets are left out between others, or where a record stands or goes on.
-    fn leaves_out(&self) -> bool {
-        let out = self.axis.left_out();
-        let is_out = |one: &Drawn| out.iter().any(|(offsets, _)| meet(&one.covered(), offsets));
-        self.axis.is_broken() || self.records().any(is_out)
-    }
-
-    /// Whether something went.
-    pub fn has_ghosts(&self) -> bool {
-        self.rows.iter().any(|row| !row.ghosts.is_empty())
-    }
-
-    /// Where the levels end.
-    pub fn bottom(&self) -> u32 {
-        self.bottom
-    }
-
-    /// The upper edge of a level, in a group where none vanished; behind the last one, where
-    /// they end.
-    pub fn row(&self, level: usize) -> u32 {
-        self.rows.get(level).map_or(self.bottom, |row| row.y)
-    }
-
-    /// The upper edge of a level's cells.
-    pub fn cells(&self, level: usize) -> u32 {
-        self.row(level) + ABOVE
-    }
-
-    /// The middle of a level's cells.
-    pub fn middle(&self, level: usize) -> u32 {
-        self.cells(level) + CELL / 2
-    }
-
-    /// The baseline of what stands beside a level.
-    pub fn baseline(&self, level: usize) -> u32 {
-        self.middle(level) + BASELINE
-    }
-
-    /// Draws the levels, with room for a lookup's way if there is one.
-    pub fn draw(&self, paper: &mut Paper, way: Option<Way>) {
-        if self.rows.is_empty() {
-            let y = self.bottom - BELOW - CELL / 2;
-            self.name(paper, y, "no record");
-        }
-        for (number, row) in self.rows.iter().enumerate() {
-            let has_records = !row.records.is_empty();
-            if has_records {
-                self.name(paper, row.y + ABOVE + CELL / 2, &row.name);
-            }
-            for record in &row.records {
-                let words = format!("{}: {}", row.name, record.in_words());
-                paper.group(&words, |paper| {
-                    self.record(paper, row.y + ABOVE, record);
-                });
-            }
-            self.signs_left_out(paper, row);
-            let met = way.map(|way| (way.column, way.met.get(number).copied()));
-            self.labels(paper, row, met);
-            let lane = match has_records {
-                true => row.y + ABOVE + CELL + BELOW,
-                false => row.y,
-            };
-            self.lane(paper, lane, row);
-        }
-    }
-
-    /// The signs that records of a level stand or go on where offsets are left out: before
-    /// the first column, in breaks, behind the last.
-    fn signs_left_out(&self, paper: &mut Paper, row: &Laid) {
-        let axis = &self.axis;
-        let y = row.y + ABOVE + CELL / 2 + BASELINE;
-        for (offsets, x) in axis.left_out() {
-            if row.records.iter().any(|one| meet(&one.covered(), &offsets)) {
-                paper.text(x, y, "more middle", "…");
-            }
-        }
-    }
-
-    fn name(&self, paper: &mut Paper, middle: u32, name: &str) {
-        paper.text(MARGIN, middle + BASELINE, "", name);
-        let (left, end) = (self.axis.left(), self.axis.end());
+    /// A level: its line, then its records, each with a title that says it in words.
+    fn row(&self, paper: &mut Paper, axis: &Axis, y: u32, level: u32, records: &[Drawn]) {
+        let (left, middle, end) = (axis.left(), self.middle(y), axis.end());
         paper.path("row", format_args!("M{left} {middle}H{end}"));
+        for record in records {
+            let words = format!(
+                "level {level}: {}, intercept {}",
+                record.in_words(),
+                record.intercept
+            );
+            paper.group(&words, |paper| {
+                self.record(paper, axis, self.cells(y), record)
+            });
+        }
     }
 
     /// A record whose cells start at this height, as far as its offsets are shown.
-    fn record(&self, paper: &mut Paper, y: u32, record: &Drawn) {
-        let Some((from, to)) = self.extent(&record.record) else {
+    pub fn record(&self, paper: &mut Paper, axis: &Axis, y: u32, record: &Drawn) {
+        let Some((from, to)) = axis.extent(record.start..=record.end) else {
             return;
         };
-        let shape = |aside: u32, out: u32| {
-            let (x, width) = (from - aside, to - from + 2 * aside);
-            [x, y - out, width, CELL + 2 * out]
+        let class = match record.kind {
+            Kind::Single => "accurate",
+            Kind::Accurate { .. } => {
+                let middle = y + self.cell / 2;
+                paper.path("range", format_args!("M{from} {middle}H{to}"));
+                "accurate"
+            }
+            Kind::Approximate { .. } => {
+                paper.rect("bar", [from, y, to - from, self.cell]);
+                "approximate"
+            }
         };
-        if record.is_new {
-            paper.rect("new", shape(self.aside() + 4, OUT + 6));
+        let free = record.free();
+        if axis.is_wide() && !free.is_empty() {
+            let cells = self.cell_path(axis, y, &free, axis.cell());
+            paper.path(&format!("{class} free"), cells);
         }
-        let (class, tint, line) = match record.is_approximate() {
-            true => ("approximate", "bar", "rough"),
-            false => ("accurate", "tint", "exact"),
-        };
-        paper.rect(tint, shape(self.aside(), OUT));
-        if !record.members.is_empty() {
-            paper.path(class, self.path(&record.members, [y, CELL], 0));
-        }
-        if !record.hidden.is_empty() {
-            let class = format!("hidden {line}");
-            paper.path(&class, self.path(&record.hidden, [y, CELL], 2));
-        }
+        let apart = record
+            .members
+            .windows(2)
+            .map(|pair| pair[1] - pair[0])
+            .min();
+        let room = u32::from(apart.unwrap_or(255)) * axis.column() - 1;
+        let width = axis.cell().max(room.min(self.least));
+        paper.path(class, self.cell_path(axis, y, &record.members, width));
     }
 
-    /// From where to where a record's shape goes, as far as its offsets are shown.
-    fn extent(&self, record: &Record) -> Option<(u32, u32)> {
-        let (from, to) = self.axis.extent(covered(record))?;
-        let cells = self.spans(&Vec::from_iter(record.members()));
-        let first = cells.first().map_or(from, |(x, _)| *x);
-        let last = cells.last().map_or(to, |(x, width)| x + width);
-        Some((from.min(first), to.max(last)))
-    }
-
-    /// How far a shape stands out to the sides, so that neighbours stay apart.
-    fn aside(&self) -> u32 {
-        let axis = &self.axis;
-        OUT.min((axis.column() - axis.cell()) / 3)
-    }
-
-    /// The path of the cells of these offsets, each a bit smaller on all sides.
-    fn path(&self, offsets: &[u8], [y, height]: [u32; 2], less: u32) -> String {
-        let (y, height) = (y + less, height - 2 * less);
-        let cell = |(x, width): (u32, u32)| {
-            let (x, width) = (x + less, width.saturating_sub(2 * less).max(2));
+    /// The path of the cells of these offsets, as far as they are shown.
+    fn cell_path(&self, axis: &Axis, y: u32, offsets: &[u8], width: u32) -> String {
+        let height = self.cell;
+        let aside = (width - axis.cell()) / 2;
+        let shown = offsets.iter().filter(|&&offset| axis.shows(offset));
+        let cell = |&offset: &u8| {
+            let x = axis.x(offset) - aside;
             format!("M{x} {y}h{width}v{height}h-{width}z")
         };
-        self.spans(offsets).into_iter().map(cell).collect()
-    }
-
-    /// The cells of these offsets, from where and how wide: where columns are narrow, those
-    /// that follow each other are one, and lone ones are made wider as there is room.
-    fn spans(&self, offsets: &[u8]) -> Vec<(u32, u32)> {
-        let axis = &self.axis;
-        let shown: Vec<u8> = offsets
-            .iter()
-            .copied()
-            .filter(|&one| axis.shows(one))
-            .collect();
-        let apart = shown.windows(2).map(|pair| pair[1] - pair[0]).min();
-        let room = u32::from(apart.unwrap_or(u8::MAX)) * axis.column() - 1;
-        let joined = |one: &u8, next: &u8| !axis.is_wide() && one + 1 == *next;
-        let span = |run: &[u8]| {
-            let (first, last) = (run[0], run[run.len() - 1]);
-            let (from, to) = (axis.x(first), axis.x(last) + axis.cell());
-            let aside = room.min(LEAST).saturating_sub(to - from) / 2;
-            (from - aside, to - from + 2 * aside)
-        };
-        shown.chunk_by(joined).map(span).collect()
-    }
-
-    /// The labels of a level's records: that of the record met, and others as they have
-    /// room beside it and beside the way, and leave room for the next.
-    fn labels(&self, paper: &mut Paper, row: &Laid, way: Option<(u32, Option<Option<&Record>>)>) {
-        let mut shelf = Shelf::default();
-        if let Some((column, Some(_))) = way {
-            shelf.keep_free(column - 6..=column + 6);
-        }
-        let met = way.and_then(|(_, met)| met.flatten());
-        let mut order: Vec<(&Drawn, Option<u32>)> = row
-            .records
-            .iter()
-            .enumerate()
-            .map(|(place, one)| {
-                let mut behind = row.records[place + 1..].iter();
-                (one, behind.find_map(|next| self.start(next.covered())))
-            })
-            .collect();
-        order.sort_by_key(|(one, _)| met != Some(&one.record));
-        for (record, end) in order {
-            let is_met = met == Some(&record.record);
-            let aside = way.filter(|_| is_met).map(|(column, _)| column + 14);
-            let place = Place {
-                class: match is_met || record.is_new {
-                    true => "label bold",
-                    false => "label",
-                },
-                y: row.y + ABOVE - OUT - 9 - NEXT_LINE,
-                starts: [self.start(record.covered()), aside],
-                // The others give way to the one that is met.
-                end: end.filter(|_| !is_met),
-            };
-            shelf.put(paper, &place, &Label::of(&record.record).lines());
-        }
-    }
-
-    /// Where the first of these offsets that is shown starts.
-    fn start(&self, offsets: Offsets) -> Option<u32> {
-        self.axis.extent(offsets).map(|(start, _)| start)
-    }
-
-    /// What went of a level, in a lane that starts here.
-    fn lane(&self, paper: &mut Paper, y: u32, row: &Laid) {
-        if row.records.is_empty() {
-            let y = y + LANE_ABOVE + LANE_CELL / 2 + BASELINE;
-            paper.text(MARGIN, y, "went", &row.name);
-        }
-        let (mut shelf, cells) = (Shelf::default(), y + LANE_ABOVE);
-        for (place, ghost) in row.ghosts.iter().enumerate() {
-            let Some((from, to)) = self.extent(&ghost.record) else {
-                continue;
-            };
-            let words = went(ghost);
-            paper.group(&words[0], |paper| {
-                if ghost.fate != Fate::Shrunk {
-                    let (x, width) = (from - self.aside(), to - from + 2 * self.aside());
-                    let shape = [x, cells - OUT, width, LANE_CELL + 2 * OUT];
-                    paper.rect("ghost", shape);
-                }
-                if !ghost.lost.is_empty() {
-                    paper.path("ghost", self.path(&ghost.lost, [cells, LANE_CELL], 0));
-                }
-            });
-            let mut behind = row.ghosts[place + 1..].iter();
-            let place = Place {
-                class: "went",
-                y: cells - OUT - 5,
-                starts: [self.start(about(ghost)), None],
-                end: behind.find_map(|next| self.start(about(next))),
-            };
-            shelf.put(paper, &place, &words.map(|words| [words, String::new()]));
-        }
-    }
-
-    /// Where the levels end to the right, labels included.
-    pub fn right(&self) -> u32 {
-        let end = |offsets: Offsets, lines: &[String; 2]| Some(self.start(offsets)? + width(lines));
-        let records = self.records();
-        let labels =
-            records.filter_map(|one| end(one.covered(), &Label::of(&one.record).lines()[0]));
-        let ghosts = self.rows.iter().flat_map(|row| &row.ghosts);
-        let ghosts = ghosts.filter_map(|one| {
-            let [longest, ..] = went(one);
-            end(covered(&one.record), &[longest, String::new()])
-        });
-        labels
-            .chain(ghosts)
-            .fold(self.axis.end() + BEHIND, u32::max)
-    }
-
-    /// The levels in words.
-    pub fn in_words(&self) -> Vec<String> {
-        let rows = self.rows.iter().map(|row| {
-            let records = row.records.iter().map(|record| {
-                let new = match record.is_new {
-                    true => "new, ",
-                    false => "",
-                };
-                format!("{new}{}", record.in_words())
-            });
-            let ghosts = row.ghosts.iter().map(|ghost| went(ghost)[0].clone());
-            let said: Vec<String> = records.chain(ghosts).collect();
-            format!("{}: {}", row.name, said.join("; "))
-        });
-        rows.collect()
-    }
-}
-
-/// Whether two ranges of offsets have one in common.
-pub fn meet(one: &Offsets, other: &Offsets) -> bool {
-    one.start() <= other.end() && other.start() <= one.end()
-}
-
-/// What the signs of levels mean, and whether each occurs.
-pub fn signs(levels: &[&Levels]) -> Vec<(bool, Sign, &'static str)> {
-    let shown = levels.iter().flat_map(|one| one.shown());
-    let shown: Vec<&Drawn> = shown.collect();
-    let any = |wanted: &dyn Fn(&Drawn) -> bool| shown.iter().any(|one| wanted(one));
-    vec![
-        (
-            any(&|one| !one.is_approximate()),
-            Sign::Cell("accurate"),
-            "member of an accurate record, or a single",
-        ),
-        (
-            any(&Drawn::is_approximate),
-            Sign::Cell("approximate"),
-            "member of an approximate record: it owns the offset",
-        ),
-        (
-            any(&|one| !one.is_approximate() && !one.hidden.is_empty()),
-            Sign::Cell("hidden exact"),
-            "member that a newer record above hides",
-        ),
-        (
-            any(&|one| one.is_approximate() && !one.hidden.is_empty()),
-            Sign::Cell("hidden rough"),
-            "owned, and a newer record above hides it",
-        ),
-        (
-            any(&|one| !one.is_approximate() && one.is_open()),
-            Sign::Cell("tint"),
-            "covered by an accurate record and no member",
-        ),
-        (
-            any(&|one| one.is_approximate() && one.is_open()),
-            Sign::Cell("bar"),
-            "covered by an approximate record and no member",
-        ),
-        (
-            any(&|one| one.is_new),
-            Sign::Cell("new"),
-            "new by this call",
-        ),
-        (
-            levels.iter().any(|one| one.has_ghosts()),
-            Sign::Cell("ghost"),
-            "went by this call",
-        ),
-        (
-            levels.iter().any(|one| one.struck().next().is_some()),
-            Sign::Struck,
-            "discarded: a lookup looks at no level",
-        ),
-        (
-            levels.iter().any(|one| one.leaves_out()),
-            Sign::Text("…"),
-            "offsets left out; in a level: a record stands or goes on there",
-        ),
-    ]
-}
-
-/// A level's records as they are drawn, where records above have these members.
-fn drawn(row: &Row, above: &BTreeSet<u8>) -> Vec<Drawn> {
-    let records = row.records.iter().map(|(record, is_new)| {
-        let (hidden, members) = record
-            .members()
-            .into_iter()
-            .partition(|offset| above.contains(offset));
-        Drawn {
-            record: record.clone(),
-            members,
-            hidden,
-            is_new: *is_new,
-        }
-    });
-    records.collect()
-}
-
-/// The height of a level.
-fn height(row: &Row) -> u32 {
-    let records = match row.records.is_empty() {
-        true => 0,
-        false => ABOVE + CELL + BELOW,
-    };
-    let lane = match row.ghosts.is_empty() {
-        true => 0,
-        false => LANE_ABOVE + LANE_CELL + LANE_BELOW,
-    };
-    records + lane
-}
-
-/// The offsets that the words for what went stand above.
-fn about(ghost: &Ghost) -> Offsets {
-    match (ghost.fate, ghost.lost.first(), ghost.lost.last()) {
-        (Fate::Shrunk, Some(first), Some(last)) => *first..=*last,
-        _ => covered(&ghost.record),
-    }
-}
-
-/// What went, in words, longest first.
-fn went(ghost: &Ghost) -> [String; 3] {
-    let Label { range, .. } = Label::of(&ghost.record);
-    let lost = offsets(&ghost.lost);
-    match (ghost.fate, ghost.lost.is_empty()) {
-        (Fate::Gone, _) => [format!("{range} is gone"), "gone".into(), "gone".into()],
-        (Fate::Shrunk, _) => [
-            format!("{range} lost {lost}"),
-            format!("lost {lost}"),
-            "lost".into(),
-        ],
-        (Fate::Moved(level), true) => [
-            format!("{range} went to level {level}"),
-            format!("to level {level}"),
-            "moved".into(),
-        ],
-        (Fate::Moved(level), false) => [
-            format!("{range} lost {lost} and went to level {level}"),
-            format!("to level {level}"),
-            "moved".into(),
-        ],
+        shown.map(cell).collect()
     }
 }
 
 #[cfg(test)]
 mod tests {
-    use hedjosur_model::levels::Group;
-    use hedjosur_model::testing::World;
-
-    use super::super::slide::LEFT;
     use super::*;
 
-    /// The first group of a device after these flushes.
-    fn group(bound: u32, flushes: &[&[u32]]) -> Group {
-        let world = World::flushed([9, 64, 256, bound], flushes);
-        let (_, state) = world.lent.open().expect("a device");
-        state.groups[0].clone()
-    }
+    const ROWS: Rows = Rows {
+        height: 24,
+        above: 0,
+        cell: 14,
+        baseline: 4,
+        least: 0,
+    };
 
-    fn laid_out(changes: &Changes) -> Levels {
-        let [used, centre] = Levels::used(changes);
-        Levels::new(Axis::zoomed(LEFT, &used, &[centre]), 100, changes)
-    }
-
-    fn drawn(changes: &Changes, way: Option<Way>) -> String {
+    /// What a record of all offsets' axis is drawn as.
+    fn drawn(start: u8, span: u8, kind: Kind, y: u32) -> String {
+        let record = listing::Record {
+            start,
+            span,
+            kind,
+            intercept: -7,
+        };
         let mut paper = Paper::default();
-        laid_out(changes).draw(&mut paper, way);
+        ROWS.record(&mut paper, &Axis::whole(72, 4), y, &Drawn::from(&record));
         paper.elements().to_string()
     }
 
-    /// How many cells the paths of a class have.
-    fn cells(drawn: &str, class: &str) -> usize {
-        let paths = drawn.split("<path class=\"").skip(1);
-        let paths = paths.filter_map(|path| path.strip_prefix(class)?.strip_prefix('"'));
-        paths
-            .filter_map(|path| path.split('/').next())
-            .map(|path| path.matches('z').count())
-            .sum()
+    #[test]
+    fn one_cell_for_each_member() {
+        let out = drawn(10, 6, Kind::Accurate { stride: 3 }, 100);
+        let cells = "M112 100h3v14h-3zM124 100h3v14h-3zM136 100h3v14h-3z";
+        assert!(out.contains(&format!("<path class=\"accurate\" d=\"{cells}\"/>")));
+        assert!(out.contains("<path class=\"range\" d=\"M112 107H139\"/>"));
+        assert!(!out.contains("free"));
     }
 
-    /// A solid cell for a member, a hollow one for a member that a record above hides, none
-    /// for what is covered and no member; every record has its shape, range and pages.
     #[test]
-    fn members_hidden_ones_and_none() {
-        let all: Vec<u32> = (0..256).step_by(32).collect();
-        let group = group(0, &[&all, &[192, 224], &[64, 96]]);
-        let out = drawn(&Changes::none(&group), None);
-        assert_eq!(cells(&out, "accurate"), 4 + 4);
-        assert_eq!(cells(&out, "hidden exact"), 2);
-        assert_eq!(out.matches("class=\"tint\"").count(), 3);
-        for label in [
-            "64..96, stride 32",
-            "pages 128..129",
-            "192..224, stride 32",
-            "pages 64..65",
-            "0..160, stride 32",
-            "pages 0..5",
-        ] {
-            assert!(out.contains(&format!(">{label}</text>")), "{label}");
-        }
-        assert!(out.contains("level 1: 0..160, stride 32, pages 0..5, 64 96 hidden</title>"));
-        assert!(!out.contains("new") && !out.contains("ghost"));
+    fn a_single_is_one_cell_without_a_range() {
+        let out = drawn(255, 0, Kind::Single, 0);
+        assert_eq!(out, "<path class=\"accurate\" d=\"M1092 0h3v14h-3z\"/>\n");
     }
 
-    /// Owned offsets are cells on a hatched bar.
     #[test]
-    fn owned_offsets() {
-        let group = group(1, &[&[0, 1, 4, 5], &[1, 2, 4]]);
-        let out = drawn(&Changes::none(&group), None);
-        assert_eq!(cells(&out, "approximate"), 3 + 2);
-        assert_eq!(out.matches("class=\"bar\"").count(), 2);
-        assert!(out.contains("level 1: 0..5, approximate, pages 0..3, owns 0 5</title>"));
-    }
-
-    /// What went stands in a lane below the level that it went from.
-    #[test]
-    fn ghosts() {
-        let before = group(1, &[&[0, 1, 4, 5]]);
-        let after = group(1, &[&[0, 1, 4, 5], &[1, 2, 4]]);
-        let changes = Changes::made(&before, &after, &after.levels[0]);
-        let out = drawn(&changes, None);
+    fn an_approximate_record_is_a_bar_with_solid_ends() {
+        let out = drawn(0, 5, Kind::Approximate { slope: 1 }, 0);
         assert_eq!(
-            (cells(&out, "ghost"), out.matches("class=\"new\"").count()),
-            (2, 1)
+            out,
+            "<rect class=\"bar\" x=\"72\" y=\"0\" width=\"23\" height=\"14\"/>\n\
+             <path class=\"approximate\" d=\"M72 0h3v14h-3zM92 0h3v14h-3z\"/>\n"
         );
-        assert!(out.contains(">0..5 lost 1 4 and went to level 1</text>"));
-        let levels = laid_out(&changes);
-        assert_eq!(
-            levels.in_words(),
-            [
-                "level 0: new, 1..4, approximate, pages 64..66, owns 1 2 4; \
-                 0..5 lost 1 4 and went to level 1",
-                "level 1: 0..5, approximate, pages 0..3, owns 0 5"
-            ]
-        );
-        let lane = LANE_ABOVE + LANE_CELL + LANE_BELOW;
-        assert_eq!(levels.row(1) - levels.row(0), ABOVE + CELL + BELOW + lane);
-        assert_eq!(levels.bottom() - levels.row(1), ABOVE + CELL + BELOW);
     }
 
-    /// A level that vanished has its lane where it was.
+    /// With wide columns, what is covered and not held is an empty cell, and what is owned
+    /// is known.
     #[test]
-    fn a_level_that_vanished() {
-        let four: &[u32] = &[20, 60, 110, 240];
-        let before = group(1, &[&[150], four, &[90]]);
-        let after = group(1, &[&[150], four, &[90], four]);
-        let out = drawn(&Changes::made(&before, &after, &after.levels[0]), None);
-        for words in ["was level 1", "20..240 is gone", "90 went to level 1"] {
-            assert!(out.contains(&format!(">{words}</text>")), "{words}");
-        }
-        let place = |words: &str| out.find(words).expect(words);
-        assert!(place(">level 0<") < place(">was level 1<"));
-        assert!(place(">was level 1<") < place(">level 1<"));
-    }
-
-    /// What is discarded is struck out in the scale, as far as it is shown.
-    #[test]
-    fn discarded_offsets() {
-        let changes = Changes::none(&group(0, &[&[0, 1, 2, 3]]));
-        let levels = laid_out(&changes).striking(vec![1, 200]);
+    fn empty_cells() {
+        let owner = record::Record::approximate(1, 0, [4, 6, 7].into());
+        let axis = Axis::fitting(100, &[4..=7]);
         let mut paper = Paper::default();
-        levels.scale(&mut paper, 50, None);
-        assert_eq!(paper.elements().matches("class=\"strike\"").count(), 1);
-        let signs = signs(&[&levels]);
-        assert!(signs.contains(&(true, Sign::Struck, "discarded: a lookup looks at no level")));
+        ROWS.record(&mut paper, &axis, 0, &Drawn::from(&owner));
+        assert_eq!(
+            paper.elements(),
+            "<rect class=\"bar\" x=\"152\" y=\"0\" width=\"195\" height=\"14\"/>\n\
+             <path class=\"approximate free\" d=\"M204 0h39v14h-39z\"/>\n\
+             <path class=\"approximate\" d=\"M152 0h39v14h-39zM256 0h39v14h-39zM308 0h39v14h-39z\"/>\n"
+        );
+    }
+
+    /// A thin cell is made wider where its neighbours leave room, and what isn't shown is
+    /// not drawn.
+    #[test]
+    fn thin_cells_and_offsets_left_out() {
+        let rows = Rows { least: 9, ..ROWS };
+        let thin = record::Record::exact(0, 64, Kind::Accurate { stride: 32 }, 0);
+        let mut paper = Paper::default();
+        rows.record(&mut paper, &Axis::whole(72, 4), 0, &Drawn::from(&thin));
+        let cells = "M69 0h9v14h-9zM197 0h9v14h-9zM325 0h9v14h-9z";
+        assert!(paper.elements().ends_with(&format!("d=\"{cells}\"/>\n")));
+        let dense = record::Record::exact(0, 2, Kind::Accurate { stride: 1 }, 0);
+        let mut paper = Paper::default();
+        rows.record(&mut paper, &Axis::whole(72, 4), 0, &Drawn::from(&dense));
+        assert!(paper.elements().contains("d=\"M72 0h3v14h-3zM76 0h3"));
+        let mut paper = Paper::default();
+        rows.record(
+            &mut paper,
+            &Axis::fitting(72, &[30..=40]),
+            0,
+            &Drawn::from(&thin),
+        );
+        assert!(paper.elements().contains("class=\"range\" d=\"M72 7H735\""));
+        assert_eq!(paper.elements().matches('z').count(), 13);
+        rows.record(
+            &mut paper,
+            &Axis::fitting(72, &[90..=99]),
+            0,
+            &Drawn::from(&thin),
+        );
+        assert_eq!(paper.elements().matches('z').count(), 13);
     }
 
     #[test]
-    fn no_record() {
-        let out = drawn(&Changes::default(), None);
-        assert!(out.contains(">no record</text>"));
-        assert!(!out.contains("<rect"));
+    fn an_axis_zooms_to_what_is_used() {
+        let axis = Axis::fitting(100, &[3..=9, 12..=12, 250..=255]);
+        assert_eq!(axis.runs, [2..=13, 249..=255]);
+        assert_eq!((axis.column, axis.cell()), (38, 29));
+        assert_eq!([axis.x(2), axis.x(13), axis.x(249)], [100, 518, 612]);
+        assert_eq!((axis.breaks(), axis.end()), (vec![584], 878));
+        assert_eq!(axis.extent(9..=251), Some((366, 717)));
+        assert_eq!(axis.extent(20..=240), None);
+        let whole = Axis::fitting(72, &[1..=254]);
+        assert_eq!(
+            (whole.runs.as_slice(), whole.column),
+            ([0..=255].as_slice(), 3)
+        );
+        assert!(axis.is_wide() && !whole.is_wide());
+        assert_eq!(Axis::fitting(7, &[]).end(), 7);
     }
 
-    /// Where columns are narrow, cells that follow each other are one, and a lone one is
-    /// made wider.
     #[test]
-    fn narrow_columns() {
-        let all: Vec<u32> = (0..64).collect();
-        let rest: Vec<u32> = (64..128).collect();
-        let more: Vec<u32> = (128..192).collect();
-        let flushes: [&[u32]; 4] = [&all, &rest, &more, &[250]];
-        let changes = Changes::none(&group(0, &flushes));
-        let levels = laid_out(&changes);
-        assert!(!levels.axis.is_wide());
-        assert_eq!(cells(&drawn(&changes, None), "accurate"), 4);
-        let [(_, width)] = levels.spans(&[250])[..] else {
-            panic!("a cell");
-        };
-        assert!(width >= LEAST - 1);
-        assert_eq!(levels.spans(&[7, 8, 9]).len(), 1);
+    fn an_axis_keeps_to_the_centre_where_all_would_be_narrow() {
+        let few = Axis::zoomed(0, &[0..=9, 70..=80], &[70..=80]);
+        assert_eq!(few.runs, [0..=10, 69..=81]);
+        let many = Axis::zoomed(0, &[0..=200], &[70..=80]);
+        assert_eq!(many.runs, [69..=81]);
+        let wide_centre = Axis::zoomed(0, &[0..=200], &[10..=190]);
+        assert_eq!(wide_centre.runs, [0..=201]);
+        // A break would take more room than the offsets.
+        let scattered: Vec<Offsets> = (0..=255).step_by(15).map(|one| one..=one).collect();
+        let scattered = Axis::zoomed(0, &scattered, &[0..=200]);
+        assert_eq!((scattered.runs.len(), scattered.column), (1, 3));
     }
 
-    /// The label of the record that is met keeps clear of the way; one without room is
-    /// shorter or left out.
     #[test]
-    fn labels_keep_clear() {
-        let group = group(0, &[&[0, 1], &[2, 3], &[4, 5]]);
-        let out = drawn(&Changes::none(&group), None);
-        for label in ["0..1, stride 1", "2..3, stride 1", "4..5, stride 1"] {
-            let short = label.split(',').next().expect("a range");
-            assert!(out.contains(&format!(">{label}<")) || out.contains(&format!(">{short}<")));
-        }
-        let changes = Changes::none(&group);
-        let column = laid_out(&changes).axis.middle(0);
-        let met = [Some(&group.levels[0][0])];
-        let out = drawn(&changes, Some(Way { column, met: &met }));
-        let (_, label) = out.split_once("label bold\" x=\"").expect("a bold label");
-        let x = label.split('"').next().and_then(|x| x.parse().ok());
-        assert_eq!(x, Some(column + 14));
+    fn numbers_have_room() {
+        let axis = Axis::fitting(0, &[10..=20]);
+        assert_eq!(axis.numbered(15), (9..=21).collect::<Vec<u8>>());
+        let wide = Axis::fitting(0, &[0..=255]);
+        assert_eq!(wide.numbered(40)[..5], [0, 16, 40, 64, 80]);
     }
 }

@@ -2,23 +2,19 @@
 //! backgrounds alike; kinds differ in form, not in colour alone; title and description
 //! say it all in words.
 //!
-//! - [`step`]: a call of a script, with what it left and what went
+//! - [`listings`]: listings, one below the other
 //! - [`why`]: why a lookup ends where it does
 //! - [`cuttings`]: how a flush can be cut into runs
-//! - [`levels`]: records on levels, with [`axis`]: offsets as columns, and [`labels`]: words
-//!   above records; [`pages`]: pages with their spare entries; [`blocks`]: blocks with what
-//!   lies on their pages; the pieces that pictures are put together from
+//! - [`levels`]: records on levels, and [`pages`]: pages with their spare entries; the
+//!   pieces that pictures are put together from
 //! - [`paper`]: what they are drawn on; [`slide`]: what those for a slide share
 
-pub mod axis;
-pub mod blocks;
 pub mod cuttings;
-pub mod labels;
 pub mod levels;
+pub mod listings;
 pub mod pages;
 pub mod paper;
 pub mod slide;
-pub mod step;
 pub mod why;
 
 /// What the tests share.

@@ -25,12 +25,6 @@ const BOXED_ASIDE: [u32; 2] = [10, 4];
 /// ones.
 const BOX_ASIDE: [u32; 2] = [4, 2];
 
-/// The rules for cells that several pictures have.
-pub const STYLE: &str = "\
-.page,.entry{fill:#fcfcf9;stroke:#4a4a46}
-.other{fill:#dededa;stroke:#8a8a84}
-";
-
 /// Pages as columns, from this one on. A page outside the device has a column too.
 #[derive(Clone, Copy, Debug, PartialEq, Eq)]
 pub struct Strip {

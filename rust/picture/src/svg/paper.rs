@@ -7,8 +7,10 @@ const STYLE: &str = "\
 .paper{fill:#fcfcf9;stroke:#8a8a84}
 text{font:13px sans-serif;fill:#1c1c1a}
 .scale{font-size:11px;fill:#4a4a46}
+.grid{stroke:#d9d9d2}
 .row{stroke:#b9b9b1}
 .accurate{fill:#0f5a9e}
+.range{stroke:#0f5a9e;stroke-width:2;opacity:.45}
 .approximate{fill:#a8480c}
 .bar{fill:url(#hatch);stroke:#a8480c}
 .hatch{stroke:#a8480c}

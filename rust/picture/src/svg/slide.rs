@@ -12,8 +12,6 @@ pub const HEADING: u32 = 40;
 pub const LINE: u32 = 30;
 /// About the width of a character of it.
 pub const CHARACTER: u32 = 11;
-/// About the width of a character of a heading.
-pub const LARGE: u32 = 13;
 
 /// Rules for text; a picture has more.
 const STYLE: &str = "\
@@ -42,35 +40,6 @@ pub fn legend<S>(
         right = right.max(LEFT + CHARACTER * words.len() as u32);
     }
     (y, right)
-}
-
-/// A sign of a legend.
-#[derive(Clone, Copy, Debug, PartialEq, Eq)]
-pub enum Sign {
-    /// A cell of this class.
-    Cell(&'static str),
-    /// A line of this class.
-    Line(&'static str),
-    /// A number that is struck out.
-    Struck,
-    /// A lookup's way.
-    Path,
-    /// A text.
-    Text(&'static str),
-}
-
-/// Draws a sign in the legend's line that starts at this y.
-pub fn draw_sign(paper: &mut Paper, y: u32, sign: Sign) {
-    match sign {
-        Sign::Cell(class) => paper.rect(class, [60, y + 4, 24, 22]),
-        Sign::Line(class) => paper.path(class, format_args!("M52 {}h40", y + 15)),
-        Sign::Struck => {
-            paper.text(72, y + 21, "scale middle", "7");
-            paper.path("strike", format_args!("M58 {}h28", y + 15));
-        }
-        Sign::Path => paper.path("path", format_args!("M72 {}v24", y + 3)),
-        Sign::Text(text) => paper.text(72, y + 22, "middle", text),
-    }
 }
 
 /// The whole picture of what is told in lines of words: the first line is its title, the

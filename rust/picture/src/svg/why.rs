@@ -5,17 +5,22 @@
 use std::ops::RangeInclusive;
 
 use hedjosur_model::ops::{Reason, WhyEntry};
-use hedjosur_model::record::Record;
+use hedjosur_model::record::{Kind, Record};
 use hedjosur_model::spare::existing;
 
-use super::axis::{Axis, Offsets};
-use super::levels::{self, covered, meet, Levels, Way};
+use super::levels::{Axis, Drawn, Offsets, Rows};
 use super::pages::{self, Strip};
 use super::paper::Paper;
-use super::slide::{self, Sign, HEADING, LARGE, LEFT, LINE, MARGIN};
-use crate::changes::Changes;
-use crate::why::{Outcome, SpareEntry, Why};
+use super::slide::{self, HEADING, LEFT, LINE, MARGIN};
+use crate::why::{range, Outcome, SpareEntry, Why};
 
+const ROWS: Rows = Rows {
+    height: 88,
+    above: 32,
+    cell: 32,
+    baseline: 7,
+    least: 9,
+};
 /// From the top to the scale's baseline, and to the first row.
 const SCALE: u32 = 92;
 const LEVELS: u32 = 104;
@@ -23,14 +28,16 @@ const LEVELS: u32 = 104;
 const NEAR: u8 = 4;
 /// From the columns to the reasons.
 const ASIDE: u32 = 40;
-/// About the width of a character of a reason.
-const REASON: u32 = 11;
-/// From the levels down to the word 'predicted', without its line.
-const ONTO: u32 = 36;
-/// How many pages are shown at most, beyond those that entries are about.
-const MOST_PAGES: i64 = 11;
+/// About the width of a character: of a label, of a reason, of the heading and the
+/// answer.
+const LABEL: u32 = 10;
+const REASON: u32 = 12;
+const LARGE: u32 = 15;
 
 const STYLE: &str = "\
+.free{fill:#fcfcf9;stroke-width:2}
+.accurate.free{stroke:#0f5a9e}
+.approximate.free{stroke:#a8480c}
 .asked{fill:#ffe08a}
 .met{fill:none;stroke:#1c1c1a;stroke-width:3}
 .path{fill:none;stroke:#1c1c1a;stroke-width:5}
@@ -38,61 +45,44 @@ const STYLE: &str = "\
 .member{fill:#1c1c1a;stroke:#fcfcf9;stroke-width:3}
 .veil{fill:#fcfcf9;opacity:.75}
 .faint{fill:#5f5f5a}
+.page,.entry{fill:#fcfcf9;stroke:#4a4a46}
+.other{fill:#dededa;stroke:#8a8a84}
 .absent{fill:none;stroke:#8a8a84;stroke-dasharray:4 4}
 .predicted{fill:#fcfcf9;stroke:#1c1c1a;stroke-width:4}
 .answered{fill:#ffe08a;stroke:#1c1c1a;stroke-width:4}
 .decides{fill:#ffe08a;stroke:#1c1c1a;stroke-width:3}
 .arrow{fill:none;stroke:#1c1c1a;stroke-width:4}
-.onto{fill:none;stroke:#1c1c1a;stroke-width:3;stroke-dasharray:9 5}
-.tip{fill:#1c1c1a}
-.window{fill:none;stroke:#1c1c1a;stroke-width:2}
 ";
 
 /// Draws why.
 pub fn draw(why: &Why) -> String {
-    draw_under(why, &why.question())
-}
-
-/// Draws why under this heading.
-pub fn draw_under(why: &Why, heading: &str) -> String {
     let picture = Picture::new(why);
     let mut paper = Paper::default();
-    paper.text(MARGIN, HEADING, "large", heading);
+    paper.text(MARGIN, HEADING, "large", &why.question());
     let mut top = picture.levels(&mut paper);
     if let (Outcome::Read { predicted, page }, Some(strip)) = (why.outcome, picture.strip) {
         top = picture.pages(&mut paper, top, &strip, (predicted, page));
     }
     let answer = why.answer();
     paper.text(MARGIN, top + LINE, "large", &answer);
-    let (bottom, legend) = slide::legend(
-        &mut paper,
-        top + 2 * LINE,
-        picture.signs(),
-        slide::draw_sign,
-    );
+    let (bottom, legend) = slide::legend(&mut paper, top + 2 * LINE, picture.signs(), draw_sign);
     let reasons = why.levels.iter().flat_map(|level| picture.beside(level));
     let longest = reasons.map(|line| line.len()).max().unwrap_or(20) as u32;
     let wide = [
-        picture.axis().end() + ASIDE + REASON * longest,
-        picture.levels.right(),
-        picture.strip_end(),
+        picture.axis.end() + ASIDE + REASON * longest,
+        picture.strip.map_or(0, |strip| strip.end()),
         MARGIN + LARGE * answer.len() as u32,
-        MARGIN + LARGE * heading.len() as u32,
         legend,
     ];
     let right = wide.into_iter().max().unwrap_or(0);
-    let words = match heading == why.question() {
-        true => why.to_string(),
-        false => format!("{heading}\n{why}"),
-    };
-    let style = format!("{}{}{STYLE}", levels::STYLE, pages::STYLE);
-    slide::framed(paper, &words, (right, bottom), &style)
+    slide::framed(paper, &why.to_string(), (right, bottom), STYLE)
 }
 
 /// What is drawn, and where.
 struct Picture<'a> {
     why: &'a Why<'a>,
-    levels: Levels,
+    levels: Vec<Vec<Drawn>>,
+    axis: Axis,
     strip: Option<Strip>,
 }
 
@@ -101,17 +91,16 @@ impl<'a> Picture<'a> {
         let asked = why.offset();
         let mut used: Vec<Offsets> = why.group.records().map(covered).collect();
         used.push(asked..=asked);
-        let near = asked.saturating_sub(NEAR)..=asked.saturating_add(NEAR);
         let met = why.levels.iter().filter_map(|told| told.record);
-        let mut met: Vec<Offsets> = met.map(covered).collect();
-        met.push(near.clone());
-        let mut records = used.clone();
-        records.retain(|one| meet(one, &near));
-        records.extend(met.clone());
-        let axis = Axis::zoomed(LEFT, &used, &[records, met]);
+        let mut centre: Vec<Offsets> = met.map(covered).collect();
+        centre.push(asked.saturating_sub(NEAR)..=asked.saturating_add(NEAR));
+        let levels = why.group.levels.iter();
         Picture {
             why,
-            levels: Levels::new(axis, LEVELS, &Changes::none(why.group)).striking(why.discarded()),
+            levels: levels
+                .map(|records| records.iter().map(Drawn::from).collect())
+                .collect(),
+            axis: Axis::zoomed(LEFT, &used, &centre),
             strip: match why.outcome {
                 Outcome::Read { predicted, .. } => {
                     let shown = around(why, predicted);
@@ -122,36 +111,35 @@ impl<'a> Picture<'a> {
         }
     }
 
-    fn axis(&self) -> &Axis {
-        &self.levels.axis
+    /// The upper edge of a level's row.
+    fn row(&self, level: usize) -> u32 {
+        LEVELS + level as u32 * ROWS.height
     }
 
     /// The x of the path.
     fn column(&self) -> u32 {
-        self.axis().middle(self.why.offset())
+        self.axis.middle(self.why.offset())
     }
 
     /// The levels, with the path of the lookup; where they end.
     fn levels(&self, paper: &mut Paper) -> u32 {
-        let (why, axis) = (self.why, self.axis());
-        let rows = self.levels.bottom();
+        let (why, axis) = (self.why, &self.axis);
+        let rows = self.row(Rows::count(&self.levels) as usize);
         let end = self.path_end();
         let bottom = rows.max(end.unwrap_or(0) + 8);
         let width = axis.cell().max(14);
         let (x, y) = (self.column() - width / 2, SCALE - 22);
         paper.rect("asked", [x, y, width, bottom - y]);
-        self.levels.scale(paper, SCALE, Some(why.offset()));
-        let met: Vec<Option<&Record>> = why.levels.iter().map(|told| told.record).collect();
-        let way = Way {
-            column: self.column(),
-            met: &met,
-        };
-        self.levels.draw(paper, Some(way));
+        self.scale(paper);
+        ROWS.draw(paper, axis, LEVELS, &self.levels);
+        for (level, records) in why.group.levels.iter().enumerate() {
+            self.labels(paper, level, records);
+        }
         let looked = why.levels.len();
-        if looked < why.group.levels.len() {
-            let y = self.levels.row(looked);
+        if looked < self.levels.len() {
+            let y = self.row(looked);
             paper.rect("veil", [1, y, axis.end() + ASIDE, rows - y]);
-            let y = self.levels.baseline(looked);
+            let y = ROWS.middle(y) + ROWS.baseline;
             paper.text(axis.end() + ASIDE, y, "faint", "not looked at");
         }
         if let Some(end) = end {
@@ -160,13 +148,77 @@ impl<'a> Picture<'a> {
         bottom
     }
 
+    /// The offsets' numbers.
+    fn scale(&self, paper: &mut Paper) {
+        let (axis, asked) = (&self.axis, self.why.offset());
+        paper.text(MARGIN, SCALE, "scale", "offset");
+        for offset in axis.numbered(asked) {
+            let class = match offset == asked {
+                true => "scale middle bold",
+                false => "scale middle",
+            };
+            paper.text(axis.middle(offset), SCALE, class, &offset.to_string());
+        }
+        let (before, behind) = self.left_out();
+        let ends = [(before, LEFT - 14), (behind, axis.end() + 22)];
+        let ends = ends.into_iter().filter_map(|(more, x)| more.then_some(x));
+        for x in axis.breaks().into_iter().chain(ends) {
+            paper.text(x, SCALE, "scale middle", "…");
+        }
+    }
+
+    /// Whether records cover offsets before the first one shown, and behind the last.
+    fn left_out(&self) -> (bool, bool) {
+        let (first, last) = self.axis.ends();
+        let records = || self.levels.iter().flatten();
+        let before = records().any(|record| record.start < first);
+        (before, records().any(|record| record.end > last))
+    }
+
+    /// The labels of a level's records: that of the record met, and others as they have
+    /// room beside it and beside the path.
+    fn labels(&self, paper: &mut Paper, level: usize, records: &[Record]) {
+        let y = self.row(level) + ROWS.above - 2;
+        let met = self.why.levels.get(level).and_then(|told| told.record);
+        let (first, others): (Vec<&Record>, Vec<&Record>) =
+            records.iter().partition(|record| met == Some(*record));
+        let mut taken = Vec::new();
+        if level < self.why.levels.len() {
+            taken.push(self.column() - 6..=self.column() + 6);
+        }
+        for record in first.into_iter().chain(others) {
+            let is_met = met == Some(record);
+            let Some((start, _)) = self.axis.extent(covered(record)) else {
+                continue;
+            };
+            let long = range(record);
+            let short = long.split(", ").next().unwrap_or_default();
+            let aside = is_met.then(|| self.column() + 14);
+            let places = [Some(start), aside].into_iter().flatten();
+            let place = [long.as_str(), short]
+                .into_iter()
+                .flat_map(|words| places.clone().map(move |x| (words, x)))
+                .map(|(words, x)| (words, x..=x + (words.len() as u32 + 1) * LABEL))
+                .find(|(_, room)| !taken.iter().any(|other| overlap(room, other)));
+            let Some((words, room)) = place else {
+                continue;
+            };
+            let class = match is_met {
+                true => "label bold",
+                false => "label",
+            };
+            paper.text(*room.start(), y, class, words);
+            taken.push(room);
+        }
+    }
+
     /// Where the path ends: at the member, or below the last level; none where no level is
     /// looked at.
     fn path_end(&self) -> Option<u32> {
         let last = self.why.levels.last()?;
         Some(match last.reason {
-            Reason::Member => self.levels.middle(last.level),
-            _ => self.levels.row(last.level + 1) + 14,
+            Reason::Member => ROWS.middle(self.row(last.level)),
+            _ => self.row(last.level + 1) + 14,
         })
     }
 
@@ -189,27 +241,24 @@ impl<'a> Picture<'a> {
 
     /// The box of the record that a level has for the offset.
     fn met(&self, paper: &mut Paper, told: &WhyEntry) {
-        let extent = |record| self.axis().extent(covered(record));
+        let extent = |record| self.axis.extent(covered(record));
         if let Some((from, to)) = told.record.and_then(extent) {
-            let (y, bottom) = (
-                self.levels.cells(told.level),
-                self.levels.middle(told.level),
-            );
-            let height = 2 * (bottom - y);
-            paper.rect("met", [from - 7, y - 7, to - from + 14, height + 14]);
+            let y = ROWS.cells(self.row(told.level)) - 5;
+            paper.rect("met", [from - 5, y, to - from + 10, ROWS.cell + 10]);
         }
     }
 
     /// Where the path meets a level, with the reason beside it.
     fn node(&self, paper: &mut Paper, told: &WhyEntry) {
+        let y = ROWS.middle(self.row(told.level));
         let class = match told.reason {
             Reason::Member => "member",
             _ => "passed",
         };
-        paper.circle(class, [self.column(), self.levels.middle(told.level), 9]);
-        let aside = self.axis().end() + ASIDE;
+        paper.circle(class, [self.column(), y, 9]);
+        let aside = self.axis.end() + ASIDE;
         let lines = self.beside(told);
-        let first = self.levels.baseline(told.level) - 12 * (lines.len() as u32 - 1);
+        let first = y + ROWS.baseline - 12 * (lines.len() as u32 - 1);
         for (number, (line, class)) in (0..).zip(lines.iter().zip(["bold", ""])) {
             paper.text(aside, first + 25 * number, class, line);
         }
@@ -224,21 +273,6 @@ impl<'a> Picture<'a> {
         }
     }
 
-    /// From the record that has the offset to the page that it predicts, in the column of
-    /// this middle.
-    fn onto(&self, paper: &mut Paper, top: u32, middle: u32) {
-        let Some(last) = self.why.levels.last() else {
-            return;
-        };
-        let (x, from) = (self.column(), self.levels.middle(last.level) + 10);
-        let (turn, tip) = (top + ONTO / 3, top + ONTO);
-        paper.path("onto", format_args!("M{x} {from}V{turn}H{middle}V{tip}"));
-        paper.path(
-            "tip",
-            format_args!("M{} {}l8 12l8 -12z", middle - 8, tip - 2),
-        );
-    }
-
     /// The pages around the predicted one and its entries; where they end.
     fn pages(
         &self,
@@ -248,9 +282,11 @@ impl<'a> Picture<'a> {
         (predicted, page): (u32, Option<u32>),
     ) -> u32 {
         let why = self.why;
-        let tags = top + ONTO + LINE;
+        let words = format!("page {predicted} is predicted: its spare entries are read");
+        let top = top + 8;
+        paper.text(MARGIN, top + LINE, "bold", &words);
+        let tags = top + 2 * LINE;
         let here = i64::from(predicted);
-        self.onto(paper, top, strip.middle(here));
         paper.text(strip.middle(here), tags, "middle", "predicted");
         if let Some(page) = page {
             paper.text(strip.middle(page.into()), tags + 24, "middle", "answered");
@@ -274,34 +310,7 @@ impl<'a> Picture<'a> {
             Some((one, strip.named(held, "nothing"), "page"))
         });
         strip.row(paper, y + pages::CELL, "holds", held);
-        self.window(paper, y + 2 * pages::CELL + 6, strip, here);
         self.entries(paper, y + 2 * pages::CELL + LINE, strip, here)
-    }
-
-    /// Where the pages end to the right, with the words beside the entries.
-    fn strip_end(&self) -> u32 {
-        let (Some(strip), Outcome::Read { predicted, .. }) = (self.strip, self.why.outcome) else {
-            return 0;
-        };
-        let words = beside_entries(predicted.into()).len() as u32;
-        strip
-            .end()
-            .max(self.aside_entries(&strip, predicted.into()) + REASON * words)
-    }
-
-    /// Where the words beside the entries start.
-    fn aside_entries(&self, strip: &Strip, predicted: i64) -> u32 {
-        strip.x(predicted + i64::from(self.why.device.bound) + 1) + ASIDE / 2
-    }
-
-    /// A bracket below the pages that the predicted page's entries are about.
-    fn window(&self, paper: &mut Paper, y: u32, strip: &Strip, predicted: i64) {
-        let bound = i64::from(self.why.device.bound);
-        let (from, to) = (
-            strip.x(predicted - bound) + 4,
-            strip.x(predicted + bound + 1) - 4,
-        );
-        paper.path("window", format_args!("M{from} {y}v6H{to}v-6"));
     }
 
     /// The entries of the page that is predicted, each below the page that it is about;
@@ -325,8 +334,6 @@ impl<'a> Picture<'a> {
             read.iter().map(cell).collect::<Vec<_>>()
         };
         strip.row(paper, y, "entry", row(&|entry| entry.number.to_string()));
-        let x = self.aside_entries(strip, predicted);
-        paper.text(x, y + pages::BASELINE, "bold", &beside_entries(predicted));
         let names = row(&|entry| strip.named(entry.names, "nobody"));
         strip.row(paper, y + pages::CELL, "names", names);
         y + 2 * pages::CELL + 8
@@ -348,23 +355,53 @@ impl<'a> Picture<'a> {
     }
 
     /// The signs: whether each occurs, and what it means.
-    fn signs(&self) -> Vec<(bool, Sign, &'static str)> {
-        let mut signs = levels::signs(&[&self.levels]);
-        signs.extend([
+    fn signs(&self) -> [(bool, Sign, &'static str); 9] {
+        let wide = self.axis.is_wide();
+        let shown = |one: &&Drawn| self.axis.extent(one.start..=one.end).is_some();
+        let records: Vec<&Drawn> = self.levels.iter().flatten().filter(shown).collect();
+        let is_approximate = |one: &Drawn| matches!(one.kind, Kind::Approximate { .. });
+        let any = |approximate: bool, free: bool| {
+            let wanted = |one: &&Drawn| {
+                is_approximate(one) == approximate && (!free || !one.free().is_empty())
+            };
+            records.iter().any(wanted)
+        };
+        let (before, behind) = self.left_out();
+        [
+            (
+                any(false, false),
+                Sign::Cell("accurate"),
+                "member of an accurate record, or a single",
+            ),
+            (
+                any(true, false),
+                Sign::Cell("approximate"),
+                "member of an approximate record: it owns the offset",
+            ),
+            (
+                wide && (any(false, true) || any(true, true)),
+                Sign::Cell("page"),
+                "covered and no member",
+            ),
+            (
+                !wide && any(false, true),
+                Sign::Line("range"),
+                "covered by an accurate record and no member",
+            ),
+            (
+                !wide && any(true, true),
+                Sign::Cell("bar"),
+                "covered by an approximate record and no member",
+            ),
             (
                 !self.why.levels.is_empty(),
                 Sign::Path,
                 "the lookup's way down; a box: the record that covers the offset",
             ),
             (
-                self.strip.is_some(),
-                Sign::Line("onto"),
-                "from the record to the page that it predicts",
-            ),
-            (
-                self.strip.is_some() && self.why.device.bound > 0,
-                Sign::Line("window"),
-                "the pages that the predicted page's spare entries are about",
+                !self.axis.breaks().is_empty() || before || behind,
+                Sign::Text("…"),
+                "offsets left out",
             ),
             (
                 self.strip.is_some_and(|strip| !strip.is_wide()),
@@ -372,50 +409,50 @@ impl<'a> Picture<'a> {
                 "nobody, nothing",
             ),
             (
-                matches!(self.why.outcome, Outcome::Read { page: Some(_), .. }),
-                Sign::Cell("answered"),
-                "the page that is answered, and the entry that decides",
-            ),
-            (
-                matches!(self.why.outcome, Outcome::Read { predicted, page } if page != Some(predicted)),
-                Sign::Cell("predicted"),
-                "the page that is predicted, if it is another",
-            ),
-            (
                 self.shows_other_block(),
                 Sign::Cell("other"),
                 "a page of another block",
             ),
-        ]);
-        signs
+        ]
     }
 }
 
-/// What stands beside the entries of a page.
-fn beside_entries(page: i64) -> String {
-    format!("the spare entries of page {page}")
+/// A sign of the legend.
+enum Sign {
+    Cell(&'static str),
+    Line(&'static str),
+    Path,
+    Text(&'static str),
+}
+
+/// Draws a sign in the legend's line that starts at this y.
+fn draw_sign(paper: &mut Paper, y: u32, sign: Sign) {
+    match sign {
+        Sign::Cell(class) => paper.rect(class, [60, y + 4, 24, 22]),
+        Sign::Line(class) => paper.path(class, format_args!("M56 {}h32", y + 15)),
+        Sign::Path => paper.path("path", format_args!("M72 {}v24", y + 3)),
+        Sign::Text(text) => paper.text(72, y + 22, "middle", text),
+    }
+}
+
+/// The offsets that a record of a sound group covers.
+fn covered(record: &Record) -> Offsets {
+    record.start..=record.start + record.span
+}
+
+/// Whether two ranges have a place in common.
+fn overlap(one: &RangeInclusive<u32>, other: &RangeInclusive<u32>) -> bool {
+    one.start() <= other.end() && other.start() <= one.end()
 }
 
 /// The pages shown: those that the predicted page's entries are about, and one more on
-/// either side that exists; where there is room, all of its block that is written and the
-/// page behind.
+/// either side that exists.
 fn around(why: &Why, predicted: u32) -> RangeInclusive<i64> {
     let (here, bound) = (i64::from(predicted), i64::from(why.device.bound));
     let [first, last] = [here - bound, here + bound];
     let before = i64::from(existing(&why.device, first - 1).is_some());
     let behind = i64::from(existing(&why.device, last + 1).is_some());
-    let (first, last) = (first - before, last + behind);
-    let block = why
-        .device
-        .pages_of_block(predicted / why.device.block_pages);
-    let is_written = |page: &u32| why.held_by(*page).is_some();
-    let written = block.clone().take_while(is_written).count() as u32;
-    let end = (block.start + written).min(block.end - 1);
-    let (wide_first, wide_last) = (first.min(block.start.into()), last.max(end.into()));
-    match wide_last - wide_first < MOST_PAGES {
-        true => wide_first..=wide_last,
-        false => first..=last,
-    }
+    first - before..=last + behind
 }
 
 #[cfg(test)]
@@ -453,17 +490,14 @@ mod tests {
         );
         for (class, elements) in [
             ("row", 2),
-            // Here and below, one more is a sign in the legend.
-            ("bar", 3),
+            ("bar", 2),
+            // The lookup's way, and its sign in the legend.
             ("path", 2),
-            ("onto", 2),
-            ("window", 2),
-            ("tip", 1),
             ("passed", 1),
             ("member", 1),
             ("met", 1),
             ("veil", 0),
-            ("answered", 2),
+            ("answered", 1),
             ("predicted", 0),
             // The number of the entry that decides, and what it names.
             ("decides", 2),
@@ -508,7 +542,7 @@ mod tests {
         let drawn = picture(&world, 2);
         assert_eq!(
             (count(&drawn, "answered"), count(&drawn, "predicted")),
-            (2, 2)
+            (1, 1)
         );
         assert!(drawn.contains(">predicted</text>") && drawn.contains(">answered</text>"));
         assert!(drawn.contains("two reads: page 1 was predicted, its entry 2 names 2</text>"));
@@ -536,7 +570,7 @@ mod tests {
         assert_eq!((count(&drawn, "decides"), count(&drawn, "arrow")), (0, 0));
         assert_eq!(
             (count(&drawn, "answered"), count(&drawn, "predicted")),
-            (0, 2)
+            (0, 1)
         );
     }
 
@@ -547,8 +581,7 @@ mod tests {
         assert!(single.contains(">member of an accurate record, or a single</text>"));
         for words in [
             "approximate record",
-            "and no member",
-            "hides",
+            "covered and",
             "left out",
             "nobody",
             "another block",
@@ -556,36 +589,11 @@ mod tests {
             assert!(!single.contains(words), "{words}");
         }
         let owners = picture(&owners(), 2);
-        assert!(owners.contains(">covered by an approximate record and no member</text>"));
+        assert!(owners.contains(">covered and no member</text>"));
         assert!(owners.contains(">a page of another block</text>"));
         assert!(!owners.contains("accurate record, or"));
         let narrow = picture(&World::flushed([9, 64, 256, 0], &[&[0, 200]]), 9);
         assert!(narrow.contains(">covered by an accurate record and no member</text>"));
-        let flushes: [&[u32]; 2] = [&[0, 1, 2, 3], &[1, 2]];
-        let hidden = picture(&World::flushed([9, 64, 256, 0], &flushes), 3);
-        assert!(hidden.contains(">member that a newer record above hides</text>"));
-    }
-
-    /// All of the block that is written, where there is room; else around the window.
-    #[test]
-    fn the_pages_shown() {
-        let shown = |world: &World, page| {
-            let why = Why::ask(&world.lent, &world.area, page).expect("an accepted call");
-            let Outcome::Read { predicted, .. } = why.outcome else {
-                panic!("a page is predicted");
-            };
-            around(&why, predicted)
-        };
-        let few = World::flushed([9, 64, 256, 1], &[&[9], &[0, 1, 4, 5, 9]]);
-        assert_eq!(shown(&few, 0), 62..=69);
-        assert_eq!(shown(&few, 9), 64..=70);
-        let many: Vec<u32> = (0..30).collect();
-        assert_eq!(
-            shown(&World::flushed([9, 64, 256, 1], &[&many]), 10),
-            8..=12
-        );
-        let full = World::flushed([4, 4, 6, 0], &[&[0, 1, 2, 3]]);
-        assert_eq!(shown(&full, 0), 0..=3);
     }
 
     /// Around the records that cover the offset, where the whole group would be too wide.
@@ -595,8 +603,7 @@ mod tests {
         let world = World::flushed([9, 64, 256, 1], &[&all, &[200, 210], &[75, 78, 82]]);
         let drawn = picture(&world, 78);
         assert!(drawn.contains(">75..82, approximate</text>"));
-        assert!(drawn.contains(">offsets left out; in a level: "));
-        assert!(drawn.contains("class=\"more middle\""));
+        assert!(drawn.contains(">offsets left out</text>"));
         assert!(!drawn.contains(">0..63, stride 1</text>"));
     }
 

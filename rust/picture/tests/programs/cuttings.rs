@@ -40,7 +40,7 @@ fn a_refused_flush() {
     );
     assert_eq!(
         String::from_utf8_lossy(&output.stderr),
-        "line 4: flush: 1 block is free, and a flush wants 2: collect first\n"
+        "cuttings: line 4 of the script is refused 6 and changes nothing\n"
     );
     assert!(output.status.success());
 }
@@ -51,19 +51,14 @@ fn bad_input_is_refused_with_a_message() {
     let none_accepted = script([3, 4, 4, 0], &[&[4]]);
     let wanted = "it wants a script; --help says more";
     let no_flush = "the script has no flush that is accepted";
-    let long = "format 5 128 256 0\nflush 0-64\n";
-    let too_long = "the last flush has 65 pages; cuttings of 64 at most are counted";
-    let cases: [(&[&str], &str, &str); 4] = [
+    let cases: [(&[&str], &str, &str); 5] = [
         (&[], "", wanted),
         (&["-", "0"], &good, wanted),
         (&["-", "--lines", "1"], &good, no_flush),
-        (&["-"], long, too_long),
+        (&["-"], &none_accepted, no_flush),
+        (&["-", "--picture"], &none_accepted, no_flush),
     ];
     for (arguments, input, message) in cases {
         refused(Cuttings, arguments, input, message);
-    }
-    // Of the flush that is refused there would be a note, if anything were told.
-    for arguments in [&["-"][..], &["-", "--picture"]] {
-        refused(Cuttings, arguments, &none_accepted, no_flush);
     }
 }

@@ -2,10 +2,8 @@
 
 use crate::common::{guide_files, root, text};
 use crate::{refused, run, script, told};
-use hedjosur_model::ops::Lookup;
+use hedjosur_model::script::{read_line, Line};
 use hedjosur_picture::command::Program::Why;
-use hedjosur_picture::script::Call;
-use hedjosur_picture::trace::{Answer, Trace};
 
 /// All four reasons in one answer: the accurate record of 0 and 3, the single 2, the
 /// approximate record of 0, 2 and 3, and the single 1.
@@ -89,7 +87,7 @@ fn calls_of_every_kind() {
     );
     assert_eq!(
         String::from_utf8_lossy(&output.stderr),
-        "line 4: flush: 1 block is free, and a flush wants 2: collect first\n"
+        "why: line 4 of the script is refused 6 and changes nothing\n"
     );
     assert!(output.status.success());
     let compacted = guide.join("agreement.script");
@@ -101,28 +99,37 @@ fn calls_of_every_kind() {
 }
 
 /// The lookups of the guide's scripts, each after the lines before it: the same page and as
-/// many levels as the lookup answers.
+/// many levels as the guide says that they answer.
 #[test]
 fn the_lookups_of_the_guide() {
-    for file in guide_files("script") {
-        let trace = Trace::read(text(&file).as_bytes(), None).expect("a script");
-        for step in &trace.steps {
-            let (Call::Lookup(page), Ok(Answer::Found(found))) = (&step.call, &step.answer) else {
+    for file in guide_files("answers") {
+        let script = file.with_extension("script");
+        let answers = text(&file);
+        let mut answers = answers
+            .lines()
+            .filter_map(|line| line.strip_prefix("lookup "));
+        for (number, line) in text(&script).lines().enumerate() {
+            let Some(Line::Lookup(page)) = read_line(line.as_bytes()) else {
                 continue;
             };
-            let (script, lines) = (file.to_string_lossy(), (step.line - 1).to_string());
+            let (script, lines) = (script.to_string_lossy(), number.to_string());
             let output = run(Why, &[&script, &page.to_string(), "--lines", &lines], b"");
             let told = String::from_utf8(output.stdout).expect("it prints text");
-            let levels = told.lines().filter(|line| line.starts_with("level "));
-            let (begins, looked) = match *found {
-                Lookup::Found { page, levels, .. } => (format!("page {page}, "), levels),
-                Lookup::NotWritten { levels: 0 } => (String::new(), 0),
-                Lookup::NotWritten { levels } => ("not written, ".to_string(), levels),
-            };
-            assert_eq!(levels.count(), looked, "{file:?}");
+            let levels = told
+                .lines()
+                .filter(|line| line.starts_with("level "))
+                .count();
             let last = told.lines().last().expect("a line");
-            assert!(last.starts_with(&begins), "{file:?}: {last}");
+            let found = last.split(',').next().expect("words before a comma");
+            let answer = answers.next().expect("an answer");
+            let levels = match levels {
+                1 => "1 level".to_string(),
+                _ => format!("{levels} levels"),
+            };
+            assert!(answer.starts_with(&format!("{page}: {found},")), "{answer}");
+            assert!(answer.ends_with(&format!(", {levels}")), "{answer}");
         }
+        assert_eq!(answers.next(), None, "{file:?}");
     }
 }
 
@@ -130,7 +137,7 @@ fn the_lookups_of_the_guide() {
 fn bad_input_is_refused_with_a_message() {
     let good = script([3, 4, 4, 0], &[&[0, 1]]);
     let wanted = "it wants a script and a logical page; --help says more";
-    let too_large = "refused 4: 4 is not below N 4";
+    let too_large = "refused 4: logical page 4 is not below N, which is 4";
     let cases: [(&[&str], &str); 10] = [
         (&[], wanted),
         (&["-"], wanted),
