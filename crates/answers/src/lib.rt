@@ -1,11 +1,13 @@
 // What the calls of both engines answer, and what their checks come to.
+#![tactic(auto)]
+
 ghost use Rattle.std.specs.Prelude.{◌≡◌, ◌<◌};
 ghost use Rattle.calls.specs.Refusals.{refusal_number};
 ghost use Rattle.answers.specs.Answers.{refusal_of};
 
 use front::Numbers;
 
-#[derive(Drop)]
+#[derive(Clone, Copy)]
 pub enum Refusal {
     BadNumbers,
     BadLength,
@@ -17,21 +19,21 @@ pub enum Refusal {
     NothingToGain,
 }
 
-#[derive(Drop)]
+#[derive(Clone, Copy)]
 pub enum Formatted {
     Done,
     Refused(Refusal),
 }
 
 // First page and count.
-#[derive(Drop)]
+#[derive(Clone, Copy)]
 pub enum Flushed {
     Done(u32, u32),
     Refused(Refusal),
 }
 
 // Where a logical page is found: the page, the predicted page and how many levels were looked at.
-#[derive(Drop)]
+#[derive(Clone, Copy)]
 pub struct Found {
     pub page: u32,
     pub predicted: u32,
@@ -39,7 +41,7 @@ pub struct Found {
 }
 
 // Not written: with the number of levels.
-#[derive(Drop)]
+#[derive(Clone, Copy)]
 pub enum Lookup {
     Found(Found),
     NotWritten(u32),
@@ -47,34 +49,34 @@ pub enum Lookup {
 }
 
 // The plain engine's lookup: the page. It predicts none and looks at no level.
-#[derive(Drop)]
+#[derive(Clone, Copy)]
 pub enum PlainLookup {
     Found(u32),
     NotWritten,
     Refused(Refusal),
 }
 
-#[derive(Drop)]
+#[derive(Clone, Copy)]
 pub enum Discarded {
     Done,
     Refused(Refusal),
 }
 
 // First page, count and number erased.
-#[derive(Drop)]
+#[derive(Clone, Copy)]
 pub enum Collected {
     Done(u32, u32, u32),
     Refused(Refusal),
 }
 
 // The records left.
-#[derive(Drop)]
+#[derive(Clone, Copy)]
 pub enum Compacted {
     Done(u32),
     Refused(Refusal),
 }
 
-#[derive(Drop)]
+#[derive(Clone, Copy)]
 pub enum Agreed {
     Yes,
     No,
@@ -82,27 +84,28 @@ pub enum Agreed {
 }
 
 // The records that were written.
-#[derive(Drop)]
+#[derive(Clone, Copy)]
 pub enum Listed {
     Done(u32),
     Refused(Refusal),
 }
 
 // The entries that were written.
-#[derive(Drop)]
+#[derive(Clone, Copy)]
 pub enum Explained {
     Done(u32),
     Refused(Refusal),
 }
 
 // What a call's checks come to: the device numbers, or the refusal.
-#[derive(Drop)]
+#[derive(Clone, Copy)]
 pub enum Opened {
     Device(Numbers),
     Refused(Refusal),
 }
 
 // Document 01's number of a refusal, which four bits hold.
+#[tactic(auto, unfolding(calls::specs::Refusals::refusal_number, crate::specs::Answers::refusal_of))]
 pub fn number(r: Refusal) -> u32
     ensures { (result ≡ refusal_number (refusal_of r)) × (result < 16) }
 {

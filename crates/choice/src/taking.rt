@@ -7,7 +7,7 @@ ghost use Rattle.choice.specs.Taking.{Chooses, choice, choice_of, listed};
 use crate::choose::{choose, count_chosen, no_gain};
 
 // How many blocks are taken, or why none is.
-#[derive(Drop)]
+#[derive(Clone, Copy)]
 pub enum Taken {
     Blocks(usize),
     NothingToGain,

@@ -1,4 +1,6 @@
 // The functions for C and Rust: each call's answer packed into a u64, `refusal × 2^60 + …`. The rest is 0 where the call is refused.
+#![tactic(auto)]
+
 mod pack;
 
 ghost use Rattle.std.specs.Prelude.{◌≡◌, List, [], ℕ};

@@ -1,4 +1,6 @@
 // Flush: a batch goes to the lowest-numbered free block.
+#![tactic(auto)]
+
 ghost use Rattle.std.specs.Prelude.{◌≡◌, [], ◌<◌};
 ghost use Rattle.calls.specs.Flush.{flush_checks};
 ghost use Rattle.calls.specs.History.{flush_call, lend};

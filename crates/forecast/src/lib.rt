@@ -1,5 +1,7 @@
 // What a lookup of each offset of a group comes to by the records alone, for all offsets at once. The records are put in from the last
 // one up: what a newer record says of an offset takes the place of what an older one says.
+#![tactic(auto)]
+
 ghost use Rattle.std.specs.Prelude.{◌≡◌, true, ℕ, suc, ◌+◌, ◌-◌, ◌*◌, ◌/◌, ◌<◌, ◌≤◌, eqb, length};
 ghost use Rattle.model.specs.Device.{group_length};
 ghost use Rattle.model.specs.Record.{kind_of, rise, member};

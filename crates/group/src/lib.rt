@@ -1,4 +1,6 @@
 // One group in its lent bytes: whether it is sound, what it holds, and where an offset is found.
+#![tactic(auto)]
+
 ghost use Rattle.std.specs.Prelude.{◌≡◌, true, suc, ◌+◌, ◌-◌, ◌<◌, ◌≤◌, length};
 ghost use Rattle.std.proofs.Math.Option.{map};
 ghost use Rattle.model.specs.Device.{group_length};
@@ -45,14 +47,14 @@ const WIDEST: u32 = 510;
 const STEEPEST: u32 = 513;
 
 // A used slot: a record, and the number of its level.
-#[derive(Drop)]
+#[derive(Clone, Copy)]
 pub struct Slot {
     pub level: u32,
     pub held: Record,
 }
 
 // The first record from the top that has an offset as a member, with the number of levels looked at; or none, and all levels.
-#[derive(Drop)]
+#[derive(Clone, Copy)]
 pub enum Hit {
     At(Record, u32),
     Nowhere(u32),

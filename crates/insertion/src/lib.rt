@@ -1,4 +1,6 @@
 // Insertion of a record into one group's bytes: its slots, and the owners of its offsets.
+#![tactic(auto)]
+
 ghost use Rattle.std.specs.Prelude.{◌≡◌, true, List, [], ◌∷◌, ◌++◌, ℕ, ◌+◌, ◌<◌, ◌≤◌, length, get_or, take, drop};
 ghost use Rattle.model.specs.Device.{group_length};
 ghost use Rattle.model.specs.Lists.{all};
@@ -24,7 +26,7 @@ use record::{Left, Record};
 
 // How a slot of level 0 comes out of its turn under a new record: it stays before the record's place, left its level, or stays
 // behind that place.
-#[derive(Drop)]
+#[derive(Clone, Copy)]
 pub enum Outcome {
     Passed,
     Taken,

@@ -1,2 +1,4 @@
 // Learning: the records of a sorted batch.
+#![tactic(auto)]
+
 pub mod runs;

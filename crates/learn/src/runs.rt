@@ -17,7 +17,7 @@ use slopes::reach::longest;
 use slopes::windows::{ADDED, Sought};
 
 // A record, and how many pages it takes.
-#[derive(Drop)]
+#[derive(Clone, Copy)]
 pub struct Run {
     pub learned: Record,
     pub taken: usize,

@@ -6,14 +6,14 @@ ghost use Rattle.lines.specs.Script.{takes as takes_numbers};
 ghost use Rattle.lines.specs.Reading.{line_answer, field_read, is_there, value_of, values_from};
 
 // An operation and how many numbers it has, or a bad line.
-#[derive(Drop)]
+#[derive(Clone, Copy)]
 pub enum Line {
     Call(u32, usize),
     Bad,
 }
 
 // What a field holds.
-#[derive(Drop)]
+#[derive(Clone, Copy)]
 pub enum Field {
     Number(u32),
     Bad,

@@ -1,4 +1,6 @@
 // The calls that only read: lookup, agreement, a group's listing, telling why.
+#![tactic(auto)]
+
 pub mod agree;
 mod alike;
 mod astray;

@@ -27,7 +27,7 @@ use state::opening::open_state;
 // The length of `out`: ten bytes for each of 512 records.
 pub const LISTING: usize = 5120;
 
-// Stores a slot in ten bytes, as record i of the listing_slices.
+// Stores a slot in ten bytes, as record i of the listing.
 fn put_slot(out: &mut [u8], i: u32, s: Slot)
     requires { (length out.old ≡ listing_length) × (i < 512) × InTen s }
     ensures { out.new ≡ store out.old (i * 10) (ten s) }

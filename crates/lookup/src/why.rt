@@ -44,7 +44,7 @@ const BYTE_3: u32 = 65536;
 const MEMBER: u32 = 3;
 
 // A record, or zeros, and the number in the four bytes behind it.
-#[derive(Drop)]
+#[derive(Clone, Copy)]
 pub struct Entry {
     pub held: Record,
     pub note: u32,

@@ -1,4 +1,6 @@
 // Little-endian numbers and packed slots in a lent slice of bytes.
+#![tactic(auto)]
+
 ghost use Rattle.std.specs.Prelude.{◌≡◌, [], ◌∷◌, ◌+◌, ◌-◌, ◌*◌, ◌<◌, ◌≤◌, length, get_or};
 ghost use Rattle.model.specs.Lists.{store};
 ghost use Rattle.octets.specs.Little.{le16, le32, signed32, le32s, bits32, bytes2, bytes4};

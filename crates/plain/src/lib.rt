@@ -1,1 +1,2 @@
 // The plain engine as definitions: no code.
+#![tactic(auto)]

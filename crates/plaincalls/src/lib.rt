@@ -1,4 +1,6 @@
 // The plain engine's calls: format, lookup, discard, flush, collection.
+#![tactic(auto)]
+
 pub mod block;
 pub mod collect;
 pub mod discard;

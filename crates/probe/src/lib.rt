@@ -1,5 +1,7 @@
 // Inner functions for conformance tests and benchmarks, as a static library. Each checks its condition itself; where that isn't met it
 // answers u64::MAX and changes nothing.
+#![tactic(auto)]
+
 pub mod groups;
 pub mod passes;
 

@@ -1,4 +1,6 @@
 // The mapping record by value: its kind, members, predicted page, and what is left of it when members are taken.
+#![tactic(auto)]
+
 ghost use Rattle.std.specs.Prelude.{◌≡◌, Bool, true, false, ◌&&◌, List, [], ℕ, ◌+◌, ◌-◌, ◌<◌, ◌≤◌, ◌%◌, length};
 ghost use Rattle.std.proofs.Math.Option.{map};
 ghost use Rattle.model.specs.Lists.{select, store};
@@ -13,7 +15,7 @@ ghost use Rattle.record.specs.Coding.{record_width, record_at, eight, InEight};
 pub const RECORD_BYTES: usize = 8;
 
 // Start S, span L, word and intercept I: a record that covers the offsets S to S + L.
-#[derive(Drop)]
+#[derive(Clone, Copy)]
 pub struct Record {
     pub start: u32,
     pub span: u32,
@@ -22,14 +24,14 @@ pub struct Record {
 }
 
 // A predicted page, where there is such a page.
-#[derive(Drop)]
+#[derive(Clone, Copy)]
 pub enum Page {
     At(u32),
     Outside,
 }
 
 // What is left of a record.
-#[derive(Drop)]
+#[derive(Clone, Copy)]
 pub enum Left {
     Kept(Record),
     Gone,

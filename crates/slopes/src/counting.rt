@@ -8,7 +8,7 @@ use crate::reach::{slopes_to, smaller};
 use crate::windows::{ABOVE, AT_ONCE, LAST_BEGIN, STEP, Sought, begin, narrow_by, some_left};
 
 // A slope and an intercept, in places plus 256, how many pages they take, and how many of those they predict wrongly.
-#[derive(Drop)]
+#[derive(Clone, Copy)]
 pub struct Fit {
     pub slope: u32,
     pub intercept: u32,

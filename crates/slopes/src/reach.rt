@@ -11,7 +11,7 @@ use crate::windows::{
 const LAST_SLOPE: u32 = 255;
 
 // Slopes from the first to the last.
-#[derive(Drop)]
+#[derive(Clone, Copy)]
 pub(crate) struct Slopes {
     pub first: u32,
     pub last: u32,

@@ -16,7 +16,7 @@ pub const ADDED: u32 = 256;
 
 // The run at a place is sought, among the pages of its group, which end before place `end`. A prediction keeps within g of its page, and
 // to the batch, whose last place is `last`.
-#[derive(Drop)]
+#[derive(Clone, Copy)]
 pub struct Sought {
     pub place: usize,
     pub end: usize,

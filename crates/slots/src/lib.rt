@@ -1,4 +1,6 @@
 // The writes on one group's bytes: its slots put, inserted, moved, removed and renumbered; `owners` names its offsets' owners anew.
+#![tactic(auto)]
+
 pub mod owners;
 
 ghost use Rattle.std.specs.Prelude.{◌≡◌, true, ◌+◌, ◌-◌, ◌<◌, ◌≤◌, length, get_or};

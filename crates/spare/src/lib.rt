@@ -2,6 +2,8 @@
 // after the erase, and a lookup reads from it which page holds a logical page. A block is erased and programmed in one pass
 // (document 02, c), which writes each of its entries a single time and may be stopped after any. By its functions a caller can't
 // program without an erase: of those that program, `program_block` alone is public, and its pass is erase and programming.
+#![tactic(auto)]
+
 ghost use Rattle.std.specs.Prelude.{◌≡◌, true, ◌+◌, ◌*◌, ◌-◌, ◌≤◌, ◌<◌, length, take, drop, replicate};
 ghost use Rattle.model.specs.Lists.{store};
 ghost use Rattle.model.specs.Device.{within_limits, pages, names_per_page, entries_per_page, entries_per_block, spare_length};
@@ -13,7 +15,7 @@ ghost use Rattle.spare.specs.Around.{Programmed};
 use front::Numbers;
 
 // The page that holds a logical page, or that no entry names it.
-#[derive(Drop)]
+#[derive(Clone, Copy)]
 pub enum Named {
     Page(u32),
     Nobody,

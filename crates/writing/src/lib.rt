@@ -1,4 +1,6 @@
 // A block written, as a flush and a collection do: here the learned records are handed to the table, each group taking in its own.
+#![tactic(auto)]
+
 pub mod block;
 
 ghost use Rattle.std.specs.Prelude.{◌≡◌, true, false, ℕ, ◌+◌, ◌<◌, ◌≤◌, ltb, length};
@@ -21,7 +23,7 @@ use state::numbers::{group_end, group_place};
 
 // A place in what is handed over: a run, the first of its pages in the batch, and where the runs of its group end; where `end` is
 // `run`, that isn't known yet.
-#[derive(Drop)]
+#[derive(Clone, Copy)]
 struct Place {
     run: usize,
     page: usize,
