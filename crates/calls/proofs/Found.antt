@@ -18,7 +18,7 @@ use Rattle.model.specs.Levels.{listing, levels_to}
 use Rattle.model.specs.Marks.{is_marked}
 use Rattle.model.specs.State.{State, group_at}
 use Rattle.model.specs.Sound.{sound_state, sound_groups}
-use Rattle.model.proofs.Lists.{get_d_default}
+use Rattle.model.proofs.Lists.{get_or_default}
 use Rattle.model.proofs.Bools.{and_l, and_r, and_i, all_head, all_tail}
 use Rattle.model.proofs.Limits.{limits, page-inside, page-block, page-split, N_below-nobody}
 use Rattle.model.proofs.Holder.{met_none, met_some, predict-line}
@@ -116,7 +116,7 @@ module _ (s : State) (spare : List ℕ) (place : ℕ → Option ℕ) (v : Inv s 
           let e : middle s.device spare p ≡ x =
           ap (middle s.device spare) l.page
           ∙ image-middle s.device spare l.block (image l.block) (get_or s.counts l.block 0) l.slot (v.imaged.entries l.block l.inside) (omega (arith, l.written, v.imaged.count l.block l.inside)) (omega (arith, l.written, image-fits l.block l.inside))
-          ∙ get_d_default (image l.block) l.slot nobody 0 l.written ∙ l.carries in
+          ∙ get_or_default (image l.block) l.slot nobody 0 l.written ∙ l.carries in
           let g : gives p (seek s spare x) ≡ true = ap (gives p) (seek_found x p l).sought ∙ eq-eqb p p refl in
           (rw e (and_i _ _ (lt-ltb x s.device.N h) g), e)
 

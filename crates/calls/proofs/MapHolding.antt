@@ -65,10 +65,10 @@ format-holds d h l = record {
 }
 
 -- An accepted flush keeps all.
-flush-holds : (sized : Bool) (batch plan : List ℕ) (a : Answer) (h : MapPast) → MapHolds h → first_refusal (map_checks sized (flush_call batch plan) h.map) ≡ none → MapAnswers h.map (flush_call batch plan) a
+flush-holds : (sized : Bool) (batch plan : List ℕ) (h : MapPast) (a : Answer) → MapHolds h → first_refusal (map_checks sized (flush_call batch plan) h.map) ≡ none → MapAnswers h.map (flush_call batch plan) a
     → MapHolds (map_after (flush_call batch plan) a (map_done (flush_call batch plan) h.map) h.book)
 unfolding map_checks map_after map_done map_write map_clear entry_of accepted_entry accepted number value values
-flush-holds sized batch plan a h v e (flushes _ _) =
+flush-holds sized batch plan h a v e (flushes _ _) =
     let p = clears _ e in
     let f : Fits h.map.device batch plan = fits_of h.map.device batch plan p.0 p.1.0 p.1.1.0 in
     let free : 2 ≤ length (free_blocks 0 h.map.counts) = ltb-false (length (free_blocks 0 h.map.counts)) 2 p.1.1.1.0 in
@@ -86,10 +86,10 @@ unfolding map_after map_done map_discard no_lists entry_of accepted_entry accept
 discard-holds x a h v (discards _) = record { inv = discard-map h.map v.inv x; free = v.free; kept = discard-kept h.map h.book v.kept x }
 
 -- An accepted collection keeps all.
-collect-holds : (sized : Bool) (plan erased : List ℕ) (a : Answer) (h : MapPast) → MapHolds h → first_refusal (map_checks sized (collect_call plan erased) h.map) ≡ none → MapAnswers h.map (collect_call plan erased) a
+collect-holds : (sized : Bool) (plan erased : List ℕ) (h : MapPast) (a : Answer) → MapHolds h → first_refusal (map_checks sized (collect_call plan erased) h.map) ≡ none → MapAnswers h.map (collect_call plan erased) a
     → MapHolds (map_after (collect_call plan erased) a (map_done (collect_call plan erased) h.map) h.book)
 unfolding map_checks map_after map_done entry_of accepted_entry accepted number value values
-collect-holds sized plan erased a h v e (collects _ _) =
+collect-holds sized plan erased h a v e (collects _ _) =
     let m : PageMap = h.map in
     let p = clears _ e in
     let fits : length (blocks_of (map_victims m)) ≤ length erased = omega (arith, taken-fit m v.inv, length_is erased m.device.M p.1.0) in
@@ -100,25 +100,25 @@ collect-holds sized plan erased a h v e (collects _ _) =
     }
 
 -- A call that is accepted keeps all.
-accepted-holds : (sized : Bool) (c : Call) (a : Answer) (h : MapPast) → MapHolds h → first_refusal (map_checks sized c h.map) ≡ none → MapAnswers h.map c a
+accepted-holds : (sized : Bool) (h : MapPast) (c : Call) (a : Answer) → MapHolds h → first_refusal (map_checks sized c h.map) ≡ none → MapAnswers h.map c a
     → MapHolds (map_after c a (map_done c h.map) h.book)
 unfolding map_after map_idle map_done no_lists entry_of accepted_entry accepted number map_checks
-accepted-holds sized c a h v e (formats d) = format-holds d h (not-false (within_limits d) (clears _ e).0)
-accepted-holds sized c a h v e (flushes batch plan) = flush-holds sized batch plan a h v e (flushes batch plan)
-accepted-holds sized c a h v e (finds x p q n f) = idle_holds h v
-accepted-holds sized c a h v e (misses x n f g) = idle_holds h v
-accepted-holds sized c a h v e (skips x g) = idle_holds h v
-accepted-holds sized c a h v e (discards x) = discard-holds x a h v (discards x)
-accepted-holds sized c a h v e (collects plan erased) = collect-holds sized plan erased a h v e (collects plan erased)
-accepted-holds sized c a h v e (compacts k n) = idle_holds h v
-accepted-holds sized c a h v e (agrees s spare s' spare' t) = idle_holds h v
-accepted-holds sized c a h v e (lists k out n) = idle_holds h v
-accepted-holds sized c a h v e (explains x out n) = idle_holds h v
+accepted-holds sized h c a v e (formats d) = format-holds d h (not-false (within_limits d) (clears _ e).0)
+accepted-holds sized h c a v e (flushes batch plan) = flush-holds sized batch plan h a v e (flushes batch plan)
+accepted-holds sized h c a v e (finds x p q n f) = idle_holds h v
+accepted-holds sized h c a v e (misses x n f g) = idle_holds h v
+accepted-holds sized h c a v e (skips x g) = idle_holds h v
+accepted-holds sized h c a v e (discards x) = discard-holds x a h v (discards x)
+accepted-holds sized h c a v e (collects plan erased) = collect-holds sized plan erased h a v e (collects plan erased)
+accepted-holds sized h c a v e (compacts k n) = idle_holds h v
+accepted-holds sized h c a v e (agrees s spare s' spare' t) = idle_holds h v
+accepted-holds sized h c a v e (lists k out n) = idle_holds h v
+accepted-holds sized h c a v e (explains x out n) = idle_holds h v
 
 -- Every call keeps all.
 pub makes-holds : (h : MapPast) (c : Call) (a : Answer) (h' : MapPast) → MapHolds h → MapMakes h c a h' → MapHolds h'
 makes-holds h c a h' v (refuses sized _ r e) = idle_holds h v
-makes-holds h c a h' v (accepts sized _ _ e p) = accepted-holds sized c a h v e p
+makes-holds h c a h' v (accepts sized _ _ e p) = accepted-holds sized h c a v e p
 makes-holds h c a h' v (others s spare s' spare' r) = idle_holds h v
 
 -- A format that is accepted gives all, whatever was there before.

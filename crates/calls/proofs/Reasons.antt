@@ -73,12 +73,14 @@ covering b o (r ∷ l) c = go (covers r o) refl (covering (suc (end r)) o l c.2)
 
 -- one of several records that pass a test passes it
 pub one_passes : (t : Record → Bool) (r : Record) (l : List Record) → OneOf r l → all t l ≡ true → t r ≡ true
+one_passes t r [] i h = elim i [ ]
 one_passes t r (s ∷ l) (inl e) h = ap t e ∙ all_head t s l h
 one_passes t r (s ∷ l) (inr i) h = one_passes t r l i (all_tail t s l h)
 
 -- none of the records owns the offset that none of their offsets is
 disowned : (o : ℕ) (q : Record) (l : List Record) → OneOf q l → elem o q.owned ≡ true → elem o (owned_offsets l) ≡ true
 unfolding owned_offsets
+disowned o q [] i h = elim i [ ]
 disowned o q (s ∷ l) (inl e) h = elem-left o s.owned (owned_offsets l) (sym (ap (λ (r : Record). elem o r.owned) e) ∙ h)
 disowned o q (s ∷ l) (inr i) h = elem-right o s.owned (owned_offsets l) (disowned o q l i h)
 

@@ -10,7 +10,7 @@ use lib.ListN.{length, get_or, replicate, get_or-replicate, get_or-eq_default}
 use borrow.Author.Tests.{ltb-true, ltb-false, le-ltb}
 use Rattle.model.specs.Device.{Device, first_page, names_per_page, entries_per_page, spare_length}
 use Rattle.model.specs.Spare.{nobody, entry, middle, entry_rule, erase, program_block}
-use Rattle.model.proofs.Lists.{Asc, get_d_default}
+use Rattle.model.proofs.Lists.{Asc, get_or_default}
 use Rattle.model.proofs.Counting.{asc_distinct, distinct-index}
 use Rattle.model.proofs.Limits.{g_inside, names-inside, entry_place_lem, entry-in_block, block_in_spare}
 use Rattle.model.proofs.SpareArea.{erased, erase_other, program_block-entry, program_block-rest, program_block_other}
@@ -79,7 +79,7 @@ rule_only d L i j y x a h e b q = go (ltb (i + j) d.g) (ltb (i + j - d.g) (lengt
     go false true p s =
         let l : i + j - d.g < length L = ltb-true _ _ s in
         let f : get_or L (i + j - d.g) nobody ≡ x = rw (p, entry_rule) at q in
-        let r : i + j - d.g ≡ y = distinct-index L (i + j - d.g) y (asc_distinct a) l h (get_d_default L (i + j - d.g) 0 nobody l ∙ f ∙ sym e) in
+        let r : i + j - d.g ≡ y = distinct-index L (i + j - d.g) y (asc_distinct a) l h (get_or_default L (i + j - d.g) 0 nobody l ∙ f ∙ sym e) in
         let z : d.g ≤ i + j = ltb-false (i + j) d.g p in
         omega arith
 

@@ -197,10 +197,10 @@ elem_at o (x ∷ l) h = go (elem_cons o x l h) (λ k. elem_at o l k)
     go (inr q) ih = let a = ih q in record { index = suc a.index; inside = omega (arith, a.inside); here = a.here }
 
 -- the default matters only beyond the end
-pub get_d_default : {A : Type 0} (l : List A) (i : ℕ) (a b : A) → i < length l → get_or l i a ≡ get_or l i b
-get_d_default [] i a b h = absurd (omega arith)
-get_d_default (x ∷ l) zero a b h = refl
-get_d_default (x ∷ l) (suc i) a b h = get_d_default l i a b (omega arith)
+pub get_or_default : {A : Type 0} (l : List A) (i : ℕ) (a b : A) → i < length l → get_or l i a ≡ get_or l i b
+get_or_default [] i a b h = absurd (omega arith)
+get_or_default (x ∷ l) zero a b h = refl
+get_or_default (x ∷ l) (suc i) a b h = get_or_default l i a b (omega arith)
 
 module _ {A : Type 0} where
   -- nothing stored changes nothing

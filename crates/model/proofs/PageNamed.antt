@@ -12,7 +12,7 @@ use Rattle.model.specs.Lists.{elem, or_else}
 use Rattle.model.specs.Device.{Device, pages, first_page, names_per_page}
 use Rattle.model.specs.Spare.{nobody, entry, middle, entry_rule, names, lowest_naming, page_named}
 use Rattle.model.proofs.Bools.{and_l, and_r, and_i, is_false}
-use Rattle.model.proofs.Lists.{Asc, elem-get_or, get_d_default}
+use Rattle.model.proofs.Lists.{Asc, elem-get_or, get_or_default}
 use Rattle.model.proofs.Limits.{page-inside, near-inside, g_inside}
 use Rattle.model.proofs.Image.{Image, rule_at, rule_only}
 
@@ -82,7 +82,7 @@ module _ (d : Device) (spare : List ℕ) (k : ℕ) (L : List ℕ) (n i i' x q : 
     exists = page-inside d k i m (omega arith);
     above = omega arith;
     below = omega arith;
-    yes_at = λ j l z. named j l ∙ rule_at d L i' j i (omega arith) ∙ get_d_default L i nobody 0 h ∙ e;
+    yes_at = λ j l z. named j l ∙ rule_at d L i' j i (omega arith) ∙ get_or_default L i nobody 0 h ∙ e;
     only_at = λ j l z. let u : i' + j ≡ i + d.g = rule_only d L i' j i x a h e (s x (rw e at (elem-get_or L i h))) (sym (named j l) ∙ z) in omega arith;
   }
 

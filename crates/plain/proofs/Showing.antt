@@ -13,7 +13,7 @@ use borrow.Author.Tests.{ltb-true, eqb-true, eqb-false, ne_eqb}
 use Rattle.model.specs.Lists.{all, elem, distinct}
 use Rattle.model.specs.Device.{pages, within_limits}
 use Rattle.model.proofs.Bools.{and_l, and_r}
-use Rattle.model.proofs.Lists.{elem_here, elem_there, elem-get_or, each_all, get_d_default}
+use Rattle.model.proofs.Lists.{elem_here, elem_there, elem-get_or, each_all, get_or_default}
 use Rattle.model.proofs.Counting.{distinct_head, distinct_tail}
 use Rattle.calls.specs.PageMap.{PageMap}
 use Rattle.calls.proofs.Refusing.{none_some}
@@ -94,7 +94,7 @@ module _ (t : Table) (limited : within_limits t.device ≡ true) (counted : leng
       let i : x < length t.entries = omega (arith, sized) in
       let n = names_it (entry_at t x) p e in
       let s : sound_entry t (entry_at t x) ≡ true =
-      ap (sound_entry t) (sym (get_d_default t.entries x 0 no_page i)) ∙ each_all (sound_entry t) t.entries every-sound _ (elem-get_or t.entries x i) in
+      ap (sound_entry t) (sym (get_or_default t.entries x 0 no_page i)) ∙ each_all (sound_entry t) t.entries every-sound _ (elem-get_or t.entries x i) in
       let w : is_written t p ≡ true = rw n.0 at (sound-written t (entry_at t x) s n.1) in
       ltb-true _ _ (and_r (ltb p (pages t.device)) _ w)
 

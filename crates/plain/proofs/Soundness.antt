@@ -12,7 +12,7 @@ use lib.ListN.{length, get_or, get_or-eq_default}
 use borrow.Author.Tests.{ltb-true, ltb-false, eqb-false}
 use Rattle.model.specs.Lists.{elem, distinct}
 use Rattle.model.proofs.Bools.{and_i, is_false}
-use Rattle.model.proofs.Lists.{elem_cons, no_elem, At, elem_at, all_each, get_d_default}
+use Rattle.model.proofs.Lists.{elem_cons, no_elem, At, elem_at, all_each, get_or_default}
 use Rattle.model.proofs.Counting.{distinct_cons}
 use Rattle.calls.specs.PageMap.{PageMap}
 use Rattle.plain.specs.Table.{no_page, sound_entry, named_pages, sound_table}
@@ -92,4 +92,4 @@ module _ (m : PageMap) (es : List ℕ) (v : Inv m es) where
   table-sound = and_i _ _ (and_i _ _ (all_each (sound_entry (table_of m es)) es (λ e h. sound e (elem_at e es h))) (apart_distinct es entries-apart)) v.full
     where
       sound : (e : ℕ) → At e es → sound_entry (table_of m es) e ≡ true
-      sound e a = rw (sym a.here ∙ get_d_default es a.index 0 no_page a.inside) (entry_sound a.index)
+      sound e a = rw (sym a.here ∙ get_or_default es a.index 0 no_page a.inside) (entry_sound a.index)
