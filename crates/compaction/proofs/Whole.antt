@@ -1,7 +1,7 @@
 -- A sound group's bytes before and after the pass, and at the end, when they hold the compacted group. Assumes nothing.
 use mathlib.Core.Path.{◌≡◌, refl, sym, ◌∙◌, ap}
 use mathlib.Core.List.{List, [], ◌∷◌, ◌++◌, map, flatten, append-nil}
-use mathlib.Core.Bool.{true≢false, true, false, not}
+use mathlib.Core.Bool.{true≢false, true, not}
 use Prim.Native.Nat.{ℕ, zero, suc, ◌+◌, ◌-◌, ◌≤◌, ◌<◌}
 use native.Mathlib.Omega.{arith}
 use lib.Dec.{eqb}

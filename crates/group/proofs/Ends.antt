@@ -13,7 +13,6 @@ use Rattle.model.specs.Record.{end}
 use Rattle.model.specs.Sound.{owns_its_ends}
 use Rattle.model.proofs.Bools.{and_l, and_r, and_i, iff_bool}
 use Rattle.model.proofs.Lists.{picked, Asc, asc_select, of_asc, asc_head, asc_top, last_elem, elem_here, no_elem}
-use Rattle.record.specs.declared.Record.{Record}
 use Rattle.group.specs.Reading.{owned_by}
 
 module _ (w : ℕ → ℕ) (start : ℕ) where

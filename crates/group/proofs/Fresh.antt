@@ -48,8 +48,9 @@ module _ (w : ℕ → ℕ) where
       go (inl k) ih = let q = owned_if w s o k in record { slot = s; among = here; kind = q.0; names = q.1 }
       go (inr k) ih = let q = ih k in record { slot = q.slot; among = there q.among; kind = q.kind; names = q.names }
 
-  offset_in : (o : ℕ) {l : List Slot} {t : Slot} → In t l → elem o (record_of w t).owned ≡ true → elem o (owned_offsets (map (record_of w) l)) ≡ true
+  offset_in : (o : ℕ) {t : Slot} {l : List Slot} → In t l → elem o (record_of w t).owned ≡ true → elem o (owned_offsets (map (record_of w) l)) ≡ true
   unfolding owned_offsets
+  offset_in o {t = t} {l = []} i h = elim i [ ]
   offset_in o {l = t ∷ l} here h = elem-left o (record_of w t).owned (owned_offsets (map (record_of w) l)) h
   offset_in o {l = s ∷ l} (there i) h = elem-right o (record_of w s).owned (owned_offsets (map (record_of w) l)) (offset_in o i h)
 
@@ -92,6 +93,7 @@ module _ (w : ℕ → ℕ) where
 
 -- where no two starts are one, an approximate record is known by its start
 pub same_slot : {s t : Slot} (l : List Slot) → Fresh l → In s l → In t l → Alike s t → s ≡ t
+same_slot {s = s} {t = t} [] f i _ a = elim i [ ]
 same_slot (s ∷ l) f here here a = refl
 same_slot (s ∷ l) f here (there j) a = absurd (f.0 _ j a)
 same_slot (s ∷ l) f (there i) here a = absurd (f.0 _ i (record { one = a.other; other = a.one; starts = sym a.starts }))

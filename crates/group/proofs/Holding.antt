@@ -3,7 +3,7 @@
 use mathlib.Core.Path.{◌≡◌, refl, sym, ap, ◌∙◌}
 use mathlib.Core.List.{List, [], ◌∷◌, ◌++◌, map, flatten}
 use mathlib.Core.Bool.{true}
-use Prim.Native.Nat.{ℕ, zero, suc, ◌+◌, ◌<◌}
+use Prim.Native.Nat.{ℕ, zero, suc, ◌<◌}
 use native.Mathlib.Omega.{arith}
 use lib.ListN.{length, length-map}
 use Rattle.model.specs.Lists.{elem}
@@ -44,11 +44,13 @@ length-slots_for g = length-map (flat g) slot_for ∙ sym (length-map (flat g) (
 
 -- an approximate record of the list has a slot that names its start
 named_record : (r : Record) (l : List Placed) → In r (map (λ p. p.item) l) → is_approximate (kind r) ≡ true → named r.start (map slot_for l) ≡ true
+named_record r [] i a = elim i [ ]
 named_record r (p ∷ l) here a = named_here (slot_for p) (map slot_for l) a
 named_record r (p ∷ l) (there i) a = named_there r.start (slot_for p) (map slot_for l) (named_record r l i a)
 
 -- the owner that a coherent table of owners has for an offset is the one among the records
 in_owner : (w : ℕ → ℕ) (o : ℕ) (l : List Slot) (r : Record) → In r (map (record_of w) l) → elem o r.owned ≡ true → w o ≡ suc r.start
+in_owner w o [] r i e = elim i [ ]
 in_owner w o (s ∷ l) r here e = (owned_if w s o e).1
 in_owner w o (s ∷ l) r (there i) e = in_owner w o l r i e
 

@@ -26,7 +26,8 @@ in_some here = omega arith
 in_some (there i) = omega arith
 
 module _ {A : Type 0} (t : A → Bool) where
-  pub all_in : {l : List A} → all t l ≡ true → {s : A} → In s l → t s ≡ true
+  pub all_in : {s : A} {l : List A} → all t l ≡ true → In s l → t s ≡ true
+  all_in {s = s} {l = []} h i = elim i [ ]
   all_in {l = s ∷ l} h here = all_head t s l h
   all_in {l = x ∷ l} h (there i) = all_in (all_tail t x l h) i
 
@@ -36,7 +37,7 @@ module _ {A : Type 0} (t : A → Bool) where
   in_all (s ∷ l) h = all_cons t s l (h s here) (in_all l (λ x i. h x (there i)))
 
 module _ {A B : Type 0} (f : A → B) where
-  pub in_map : {l : List A} {s : A} → In s l → In (f s) (map f l)
+  pub in_map : {s : A} {l : List A} → In s l → In (f s) (map f l)
   in_map here = here
   in_map (there i) = there (in_map i)
 
@@ -82,9 +83,10 @@ pub named_here : (s : Slot) (l : List Slot) → approx s.held ≡ true → named
 unfolding named starts_at
 named_here s l a = rw (a, eq-eqb s.held.start s.held.start refl)
 
-pub in_named : {l : List Slot} {s : Slot} → In s l → approx s.held ≡ true → named s.held.start l ≡ true
+pub in_named : {s : Slot} {l : List Slot} → In s l → approx s.held ≡ true → named s.held.start l ≡ true
+in_named {s = s} {l = []} i a = elim i [ ]
 in_named {l = s ∷ l} here a = named_here s l a
-in_named {l = t ∷ l} {s = s} (there i) a = named_there s.held.start t l (in_named i a)
+in_named {s = s} {l = t ∷ l} (there i) a = named_there s.held.start t l (in_named i a)
 
 -- a test on the n numbers from x on
 pub every_of : (t : ℕ → Bool) (n x : ℕ) → every_from t n x ≡ true → (o : ℕ) → x ≤ o → o < x + n → t o ≡ true

@@ -64,12 +64,13 @@ among o (r ∷ l) = go (elem o r.owned) refl (among o l)
     go false e a = rw (e, owner_among) (later e a)
 
 -- an offset has one owner
-owned_offset : (o : ℕ) {l : List Record} {r : Record} → In r l → elem o r.owned ≡ true → elem o (owned_offsets l) ≡ true
+owned_offset : (o : ℕ) {r : Record} {l : List Record} → In r l → elem o r.owned ≡ true → elem o (owned_offsets l) ≡ true
 unfolding owned_offsets
+owned_offset o {r = r} {l = []} i h = elim i [ ]
 owned_offset o {l = r ∷ l} here h = elem-left o r.owned (owned_offsets l) h
 owned_offset o {l = s ∷ l} (there i) h = elem-right o s.owned (owned_offsets l) (owned_offset o i h)
 
-one_owner : (o : ℕ) {l : List Record} {r s : Record} → distinct (owned_offsets l) ≡ true → In r l → In s l → elem o r.owned ≡ true → elem o s.owned ≡ true → r ≡ s
+one_owner : (o : ℕ) {r s : Record} {l : List Record} → distinct (owned_offsets l) ≡ true → In r l → In s l → elem o r.owned ≡ true → elem o s.owned ≡ true → r ≡ s
 unfolding owned_offsets
 one_owner o d here here h k = refl
 one_owner o {l = r ∷ l} d here (there j) h k = absurd (distinct_apart r.owned (owned_offsets l) d o h (owned_offset o j k))

@@ -164,6 +164,7 @@ left_none c (s ∷ l) n m x z =
     left_none (Next c s) l (taken-long c s.held n (m s here) (approx s.held)) (λ t i. m t (there i)) x (took_none c s.held n (m s here) (approx s.held) x z)
 
 no_start : (c : List ℕ) (l : List Slot) → length c ≡ 256 → Small l → own_ends c l ≡ true → (t : Slot) → In t l → approx t.held ≡ true → get_or c t.held.start 0 ≡ 0 → ⊥
+no_start c [] n m h t i a z = elim i [ ]
 no_start c (s ∷ l) n m h t here a z = omega (arith, (own_head c s l h a).0)
 no_start c (s ∷ l) n m h t (there i) a z =
     no_start (Next c s) l (taken-long c s.held n (m s here) (approx s.held)) (λ u j. m u (there j)) (own_tail c s l h) t i a (took_none c s.held n (m s here) (approx s.held) t.held.start z)
@@ -185,6 +186,7 @@ fresh_of c (s ∷ l) n m h = (apart, fresh_of (Next c s) l long (λ t i. m t (th
 -- each approximate record that passes owns its ends
 pub ends_of : (w : ℕ → ℕ) (c : List ℕ) (l : List Slot) → length c ≡ 256 → Small l → Sub w c → own_ends c l ≡ true → (t : Slot) → In t l → approx t.held ≡ true
     → (w t.held.start ≡ suc t.held.start) × (w (end_of t.held) ≡ suc t.held.start)
+ends_of w c [] n m u h t i a = elim i [ ]
 ends_of w c (s ∷ l) n m u h t here a =
     let q = own_head c s l h a in
     let b : end_of s.held ≤ 255 = m s here in
@@ -211,6 +213,7 @@ taken_by_lem c (s ∷ l) n m x o e z =
 pub left_gone : (c : List ℕ) (l : List Slot) → length c ≡ 256 → Small l → (t : Slot) → In t l → approx t.held ≡ true → (o : ℕ) → t.held.start ≤ o → o ≤ end_of t.held
     → (get_or c o 0 ≡ 0) ⊎ (get_or c o 0 ≡ suc t.held.start) → get_or (left_by c l) o 0 ≡ 0
 unfolding left_by
+left_gone c [] n m t i a o low high v = elim i [ ]
 left_gone c (s ∷ l) n m t here a o low high v =
     left_none (Next c s) l (taken-long c s.held n (m s here) (approx s.held)) (λ u i. m u (there i)) o (go v)
   where

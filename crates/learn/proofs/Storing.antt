@@ -132,12 +132,3 @@ module _ (b : Bounds) (w taken₀ taken : List ℕ) (i n : ℕ) (s : Stored b w 
 
     pub listed_all : (out₀ out : List Record) → Listed b w out₀ out i n → out ≡ store out₀ 0 (records (all b w))
     listed_all out₀ out l = sym (l.listed ∙ records_none out n _ rest_none)
-
--- a turn's start: what is stored by then, and up to where
-pub record Turn (b : Bounds) (w : List ℕ) (out₀ : List Record) (taken₀ : List ℕ) : Type 0 where
-  pub place : ℕ
-  pub number : ℕ
-  pub out : List Record
-  pub taken : List ℕ
-  pub so : Stored b w taken₀ taken place number
-  pub list : Listed b w out₀ out place number

@@ -26,7 +26,7 @@ slots_same {s = s} {t = t} {p = p} {q = q} w (suc n) a h k =
     let e : p + 0 * w ≡ p = omega arith in
     let f : q + 0 * w ≡ q = omega arith in
     let first : take w (drop p s) ≡ take w (drop q t) = part_same (same_first w (omega arith) a) (omega arith) (omega arith) in
-    let others : slots w (p + w) n s ≡ slots w (q + w) n t = slots_same w n (same_inner w (n * w) (omega arith) a) (omega arith) (omega arith) in
+    let others : slots w (p + w) n s ≡ slots w (q + w) n t = slots_same {p = p + w} {q = q + w} w n (same_inner w (n * w) (omega arith) a) (omega arith) (omega arith) in
     rw (e, f, first, others)
 
 -- a slot opened at place q, the n bytes from it on moved up, and v stored in it

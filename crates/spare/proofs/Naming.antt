@@ -12,12 +12,12 @@ use Rattle.model.specs.Lists.{or_else}
 use Rattle.model.specs.Device.{Device, pages, names_per_page, entries_per_page}
 use Rattle.model.specs.Spare.{nobody, entry, middle, names, lowest_naming, page_named}
 use Rattle.model.proofs.Bools.{and_l}
-use Rattle.model.proofs.Lists.{get_d_default}
+use Rattle.model.proofs.Lists.{get_or_default}
 
 -- the entry at its place, n entries to a page
 pub entry_read : (d : Device) (s : List ℕ) (p j n : ℕ) → n ≡ entries_per_page d → p * n + j < length s → get_or s (p * n + j) 0 ≡ entry d s p j
 unfolding entry
-entry_read d s p j n e h = get_d_default s (p * n + j) 0 nobody h ∙ rw e refl
+entry_read d s p j n e h = get_or_default s (p * n + j) 0 nobody h ∙ rw e refl
 
 module _ (d : Device) (s : List ℕ) (p x j : ℕ) where
   pub names-before : p + j < d.g → false ≡ names d s p x j

@@ -13,75 +13,69 @@ use borrow.Author.Rules.{rules}
 use Rattle.forecast.proofs.foretell.Statement.{statement}
 use Rattle.forecast.proofs.foretell.Tie as tie
 
-abbrev invariant-loop : tie.invariant-loop
+abbrev invariant-loop : tie.invariant-loop-i
 invariant-loop b forecasts₀ m n i₀ forecasts i = (i ≤ m) × (m ≤ 512) × SaysFrom b forecasts m i
 
-abbrev decreases-loop : tie.decreases-loop
+abbrev decreases-loop : tie.decreases-loop-i
 decreases-loop b forecasts₀ m n i₀ forecasts i = i
 
 -- the group that the bytes encode has few slots
-few : (c : tie.After-used invariant-loop decreases-loop) → c.used.result ≤ 512
-few c = let pre = c.before.before.before.requires in omega (arith, c.used.ensures.0, few-used _ (sound-encodes _ _ _ pre.1.sound))
+few : (c : tie.After-used-m invariant-loop decreases-loop) → c.used-m.result ≤ 512
+few c = let pre = c.requires in omega (arith, c.used-m.ensures.0, few-used _ (sound-encodes _ _ _ pre.1.sound))
 
-loop_holds : tie.Need-loop-init invariant-loop decreases-loop
-loop_holds c = (omega arith, few c.before.before.before.before.before, says_none _ _ _ _ _ (ap (λ (x : ℕ). x * level_unit) c.before.before.before.before.levels-at.ensures) c.before.before.fill.ensures)
+loop_holds : tie.Need-loop-i-init invariant-loop decreases-loop
+loop_holds c = (omega arith, few c.before.before.before.before.before, says_none _ _ _ _ _ (ap (λ (x : ℕ). x * level_unit) c.levels_at-n.ensures) c.fill.ensures)
 
-abbrev start : tie.After-near invariant-loop decreases-loop → tie.Start invariant-loop decreases-loop
-start c = c.before.before.before.before.before.before.before.before.before.before.before.before.before.before
-
-abbrev used : tie.After-near invariant-loop decreases-loop → tie.After-used invariant-loop decreases-loop
+abbrev used : tie.After-near invariant-loop decreases-loop → tie.After-used-m invariant-loop decreases-loop
 used c = c.before.before.before.before.before.before.before.before.before.before.before
 
 -- the slot that comes next is one of the used ones
-in_use_lem : (c : tie.After-near invariant-loop decreases-loop) → c.before.before.before.before.before.loop.i - 1 < (used c).used.result
-in_use_lem c = omega (arith, c.before.before.before.before.loop-test.true, c.before.before.before.before.before.loop.invariant.0)
+in_use_lem : (c : tie.After-near invariant-loop decreases-loop) → c.loop-i.i - 1 < c.used-m.result
+in_use_lem c = omega (arith, c.loop-i-test.true, c.loop-i.invariant.0)
 
 -- its level and its intercept give a small number
-level-few : (c : tie.After-slot-at invariant-loop decreases-loop) → c.slot_at.result.level < 512
+level-few : (c : tie.After-slot_at-s invariant-loop decreases-loop) → c.slot_at-s.result.level < 512
 level-few c =
-    let loop = c.before.before.loop in
-    let known = c.before.before.before.before.before.before.before.before in
-    let pre = known.before.before.before.requires in
-    let h : loop.i - 1 < used_of known.before.before.before.args.b.now = omega (arith, known.used.ensures.0, c.before.loop-test.true, loop.invariant.0) in
-    omega (arith, level-low _ (sound-encodes _ _ _ pre.1.sound) _ h, ap (λ (s : Slot). s.level) c.slot_at.ensures.0, loop.invariant.0, loop.invariant.1)
+    let loop = c.loop-i in
+    let pre = c.requires in
+    let h : loop.i - 1 < used_of c.args.b.now = omega (arith, c.used-m.ensures.0, c.loop-i-test.true, loop.invariant.0) in
+    omega (arith, level-low _ (sound-encodes _ _ _ pre.1.sound) _ h, ap (λ (s : Slot). s.level) c.slot_at-s.ensures.0, loop.invariant.0, loop.invariant.1)
 
-first_low : (c : tie.After-near invariant-loop decreases-loop) → (c.before.before.before.slot_at.result.level + 1) * 2097152 + c.near.result < 1342177280
-first_low c = omega (arith, level-few c.before.before.before, c.near.ensures, near_most c.before.before.before.slot_at.result.held.intercept)
+first_low : (c : tie.After-near invariant-loop decreases-loop) → (c.slot_at-s.result.level + 1) * 2097152 + c.near.result < 1342177280
+first_low c = omega (arith, level-few c.before.before.before, c.near.ensures, near_most c.slot_at-s.result.held.intercept)
 
-put_record_requires : tie.Need-put-record-requires invariant-loop decreases-loop
+put_record_requires : tie.Need-put_record-requires invariant-loop decreases-loop
 put_record_requires c κs =
-    let pre = (start c.before).pre in
-    let slot = c.before.before.before.before.slot_at in (
+    let pre = c.requires in
+    let slot = c.slot_at-s in (
       pre.0,
-      c.before.before.before.before.before.before.loop.invariant.2.long,
+      c.loop-i.invariant.2.long,
       first_low c.before,
-      slot_anywhere _ pre.1 _ _ (used c.before).used.ensures.0 (in_use_lem c.before) _ slot.ensures.0,
+      slot_anywhere _ pre.1 _ _ c.used-m.ensures.0 (in_use_lem c.before) _ slot.ensures.0,
     )
 
-loop_again : tie.Need-loop-preserved invariant-loop decreases-loop
+loop_again : tie.Need-loop-i-preserved invariant-loop decreases-loop
 loop_again c =
-    let put = c.before.before.before.before in
-    let loop = put.before.before.before.before.before.loop in
-    let slot = put.before.before.before.slot_at in
-    let next : loop.i ≡ loop.i - 1 + 1 = omega (arith, put.before.before.before.before.loop-test.true) in (
+    let loop = c.loop-i in
+    let slot = c.slot_at-s in
+    let next : loop.i ≡ loop.i - 1 + 1 = omega (arith, c.loop-i-test.true) in (
       omega (arith, loop.invariant.0),
       loop.invariant.1,
-      says_slot _ (start put).requires.1 _ _ (used put).used.ensures.0 (in_use_lem put) _ slot.ensures.0 _ _ _ (rw next at loop.invariant.2) (ap (λ (x : ℕ). (slot.result.level + 1) * level_unit + x) put.near.ensures) c.before.before.put_record.ensures,
+      says_slot _ c.requires.1 _ _ c.used-m.ensures.0 (in_use_lem c.before.before.before.before) _ slot.ensures.0 _ _ _ (rw next at loop.invariant.2) (ap (λ (x : ℕ). (slot.result.level + 1) * level_unit + x) c.near.ensures) c.put_record.ensures,
     )
 
 returns : tie.Need-returns invariant-loop decreases-loop
 returns c =
-    let start = c.before.before.before.before.before.before.before.before.before.before in
-    says_all _ _ _ _ (sound-encodes _ _ _ start.requires.1.sound) c.before.before.before.before.before.before.before.used.ensures.0 (omega (arith, c.loop-test.false)) c.before.loop.invariant.2
+    says_all _ _ _ _ (sound-encodes _ _ _ c.requires.1.sound) c.used-m.ensures.0 (omega (arith, c.loop-i-test.false)) c.loop-i.invariant.2
 
 -- all levels
-levels-few : (c : tie.After-levels-at invariant-loop decreases-loop) → c.levels-at.result ≤ 512
+levels-few : (c : tie.After-levels_at-n invariant-loop decreases-loop) → c.levels_at-n.result ≤ 512
 levels-few c =
-    let pre = c.before.before.before.before.requires in
-    omega (arith, c.levels-at.ensures, levels-low _ (sound-encodes _ _ _ pre.1.sound) _ c.before.used.ensures.0, few c.before)
+    let pre = c.requires in
+    omega (arith, c.levels_at-n.ensures, levels-low _ (sound-encodes _ _ _ pre.1.sound) _ c.used-m.ensures.0, few c.before)
 
 pub foretell_spec : {M : Type 1} → statement M
-foretell_spec = tie.close (tie.spec invariant-loop decreases-loop (λ c κs. search rules) (λ c. search rules) (λ c κs. (c.before.before.before.requires.0, few c)) (λ c. omega (arith, levels-few c.before))
-    (λ c κs. search rules) loop_holds (λ c. omega arith) (λ c κs. (c.before.before.before.before.before.before.before.before.before.before.requires.0, omega (arith, c.before.loop.invariant.0, c.before.loop.invariant.1, c.loop-test.true)))
+foretell_spec = tie.close (tie.spec invariant-loop decreases-loop (λ c κs. search rules) (λ c. search rules) (λ c κs. (c.requires.0, few c)) (λ c. omega (arith, levels-few c.before))
+    (λ c κs. search rules) loop_holds (λ c. omega arith) (λ c κs. (c.requires.0, omega (arith, c.loop-i.invariant.0, c.loop-i.invariant.1, c.loop-i-test.true)))
     (λ c. omega (arith, level-few c.before.before)) (λ c. omega (arith, level-few c.before.before)) (λ c κs. search rules)
     (λ c. omega (arith, first_low c)) put_record_requires (λ c. omega arith) loop_again (λ c. search rules) returns)

@@ -10,24 +10,24 @@ use Rattle.group.proofs.Cases.{entries-turn, entries-done}
 use Rattle.group.proofs.copy_entries.Statement.{statement}
 use Rattle.group.proofs.copy_entries.Tie as tie
 
-abbrev invariant-loop : tie.invariant-loop
+abbrev invariant-loop : tie.invariant-loop-o
 invariant-loop b owners₀ o₀ owners o = (o ≤ 256) × (length owners ≡ 256) × ((x : ℕ) → x < o → get_or owners x 0 ≡ entry_of b x)
 
-abbrev decreases-loop : tie.decreases-loop
+abbrev decreases-loop : tie.decreases-loop-o
 decreases-loop b owners₀ o₀ owners o = 256 - o
 
-loop_holds : tie.Need-loop-init invariant-loop decreases-loop
-loop_holds c = (omega arith, c.before.before.requires.1, λ x h. absurd (omega arith))
+loop_holds : tie.Need-loop-o-init invariant-loop decreases-loop
+loop_holds c = (omega arith, c.requires.1, λ x h. absurd (omega arith))
 
-loop_again : tie.Need-loop-preserved invariant-loop decreases-loop
+loop_again : tie.Need-loop-o-preserved invariant-loop decreases-loop
 unfolding entry_of
 loop_again c =
-    let inv = c.before.before.loop.invariant in
-    let below : c.before.before.loop.o < length c.before.before.loop.owners = omega arith in
-    (omega arith, simp length-set inv.1, entries-turn c.before.before.before.before.before.args.b.now c.before.before.loop.owners _ _ below c.get-u16.ensures.0 inv.2)
+    let inv = c.loop-o.invariant in
+    let below : c.loop-o.o < length c.loop-o.owners = omega arith in
+    (omega arith, simp length-set inv.1, entries-turn c.args.b.now c.loop-o.owners _ _ below c.get_u16.ensures.0 inv.2)
 
 returns : tie.Need-returns invariant-loop decreases-loop
-returns c = entries-done _ _ c.before.loop.invariant.1 (λ x h. c.before.loop.invariant.2 x (omega arith))
+returns c = entries-done _ _ c.loop-o.invariant.1 (λ x h. c.loop-o.invariant.2 x (omega arith))
 
 pub copy_entries_spec : {M : Type 1} → statement M
 copy_entries_spec = tie.close (tie.spec invariant-loop decreases-loop loop_holds (λ c. search rules) (λ c. search rules) (λ c. search rules)

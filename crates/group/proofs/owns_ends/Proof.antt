@@ -6,25 +6,19 @@ use Rattle.group.proofs.Tests.{ends_other, ends_first, ends_last, ends-both, end
 use Rattle.group.proofs.owns_ends.Statement.{statement}
 use Rattle.group.proofs.owns_ends.Tie as tie
 
-abbrev else1 : tie.Else2 → tie.Else1
-else1 c = c.before.before.before.before.before
+returns : tie.Need-returns-then-r-eq0
+returns c = let q = ends_other c.args.r c.args.owners.now c.if-r-eq0.true in (q.0, λ e. q.1)
 
-abbrev else2 : tie.After-slice-known4 → tie.Else2
-else2 c = c.before.before.before.before.before.before
+returns_2 : tie.Need-returns-then-owners-first
+returns_2 c = (ends_first _ _ c.if-r-eq0.false c.if-owners-first.true, λ e. absurd (true≢false (sym e)))
 
-returns : tie.Need-returns
-returns c = let q = ends_other c.before.before.before.args.r c.before.before.before.args.owners.now c.if1.true in (q.0, λ e. q.1)
+returns_3 : tie.Need-returns-then-owners-last
+returns_3 c = (ends_last _ _ c.if-r-eq0.false c.if-owners-first.false c.if-owners-last.true, λ e. absurd (true≢false (sym e)))
 
-returns_2 : tie.Need-returns-2
-returns_2 c = (ends_first _ _ c.before.before.before.before.before.if1.false c.if2.true, λ e. absurd (true≢false (sym e)))
-
-returns_3 : tie.Need-returns-3
-returns_3 c = (ends_last _ _ (else1 c.before.before).if1.false c.before.before.if2.false c.if3.true, λ e. absurd (true≢false (sym e)))
-
-returns_4 : tie.Need-returns-4
+returns_4 : tie.Need-returns
 returns_4 c = (
-  ends-both _ _ (else1 (else2 c)).if1.false (else2 c).if2.false c.before.before.before.before.if3.false,
-  λ e. c.before.before.take.ensures ∙ ends-taken (else1 (else2 c)).before.before.before.args.r (else1 (else2 c)).before.before.before.args.owners.now (else1 (else2 c)).if1.false,
+  ends-both _ _ c.if-r-eq0.false c.if-owners-first.false c.if-owners-last.false,
+  λ e. c.take.ensures ∙ ends-taken c.args.r c.args.owners.now c.if-r-eq0.false,
 )
 
 pub owns_ends_spec : {M : Type 1} → statement M

@@ -12,21 +12,21 @@ use Rattle.group.proofs.Turns.{any_turn, any_done}
 use Rattle.group.proofs.unowned.Statement.{statement}
 use Rattle.group.proofs.unowned.Tie as tie
 
-abbrev invariant-loop : tie.invariant-loop
+abbrev invariant-loop : tie.invariant-loop-o
 invariant-loop owners any₀ o₀ any o =
     (o ≤ 256) × (unowned owners ≡ (eqb any 0 && every_from (λ x. eqb (get_or owners x 0) 0) (256 - o) o))
 
-abbrev decreases-loop : tie.decreases-loop
+abbrev decreases-loop : tie.decreases-loop-o
 decreases-loop owners any₀ o₀ any o = 256 - o
 
-loop_holds : tie.Need-loop-init invariant-loop decreases-loop
+loop_holds : tie.Need-loop-o-init invariant-loop decreases-loop
 loop_holds c = (omega arith, refl)
 
-loop_again : tie.Need-loop-preserved invariant-loop decreases-loop
-loop_again c = (omega arith, c.before.before.loop.invariant.1 ∙ any_turn _ 256 c.before.before.loop.any _ c.before.loop-test.true _ refl)
+loop_again : tie.Need-loop-o-preserved invariant-loop decreases-loop
+loop_again c = (omega arith, c.loop-o.invariant.1 ∙ any_turn _ 256 c.loop-o.any _ c.loop-o-test.true _ refl)
 
 returns : tie.Need-returns invariant-loop decreases-loop
-returns c = sym (c.before.loop.invariant.1 ∙ any_done _ 256 c.before.loop.any _ c.loop-test.false)
+returns c = sym (c.loop-o.invariant.1 ∙ any_done _ 256 c.loop-o.any _ c.loop-o-test.false)
 
 pub unowned_spec : {M : Type 1} → statement M
 unowned_spec = tie.close (tie.spec invariant-loop decreases-loop loop_holds (λ c. search rules) (λ c. search rules)

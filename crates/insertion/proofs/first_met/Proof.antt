@@ -7,16 +7,16 @@ use Rattle.insertion.proofs.Searches.{Between, search_up, search_down, Early, ea
 use Rattle.insertion.proofs.first_met.Statement.{statement}
 use Rattle.insertion.proofs.first_met.Tie as tie
 
-abbrev invariant-loop : tie.invariant-loop
+abbrev invariant-loop : tie.invariant-loop-low
 invariant-loop b z start low₀ high₀ low high = Between (Early (slots_of b) z start) (λ i. Unit {0}) z low high
 
-abbrev decreases-loop : tie.decreases-loop
+abbrev decreases-loop : tie.decreases-loop-low
 decreases-loop b z start low₀ high₀ low high = high - low
 
-loop_again : tie.Need-loop-preserved invariant-loop decreases-loop
+loop_again : tie.Need-loop-low-preserved-then-held-start invariant-loop decreases-loop
 loop_again c =
-    let so = c.before.before.before.before.before.loop.invariant in
-    search_up _ _ _ _ _ so _ (omega arith) (omega arith) (early_through _ _ _ _ _ (omega (arith, so.inside)) c.before.before.before.get.ensures.0 c.if1.true)
+    let so = c.loop-low.invariant in
+    search_up _ _ _ _ _ so _ (omega arith) (omega arith) (early_through _ _ _ _ _ (omega (arith, so.inside)) c.get-s.ensures.0 c.if-held-start.true)
 
 pub first_met_spec : {M : Type 1} → statement M
 first_met_spec = tie.close (tie.spec invariant-loop decreases-loop (λ c. search (early_none, rules)) (λ c. omega arith) (λ c. omega arith)

@@ -10,32 +10,31 @@ use Rattle.insertion.proofs.GivingUp.{GivingUp, giving_start, giving_inside, giv
 use Rattle.insertion.proofs.give_up_all.Statement.{statement}
 use Rattle.insertion.proofs.give_up_all.Tie as tie
 
-abbrev invariant-loop : tie.invariant-loop
+abbrev invariant-loop : tie.invariant-loop-k
 invariant-loop b₀ taken losers k₀ i₀ b k i = Noted b taken losers × ((l : List Placed) → Shown b₀ l → GivingUp (masked taken) l b k i)
 
-abbrev decreases-loop : tie.decreases-loop
+abbrev decreases-loop : tie.decreases-loop-k
 decreases-loop b₀ taken losers k₀ i₀ b k i = k
 
-loop_holds : tie.Need-loop-init invariant-loop decreases-loop
-loop_holds c = (c.before.before.before.before.before.requires.3, λ l shown. giving_start _ l _ _ shown c.used.ensures.1)
+loop_holds : tie.Need-loop-k-init invariant-loop decreases-loop
+loop_holds c = (c.requires.3, λ l shown. giving_start _ l _ _ shown c.used-k.ensures.1)
 
-give_up_requires : tie.Need-give-up-requires invariant-loop decreases-loop
+give_up_requires : tie.Need-give_up-i-requires invariant-loop decreases-loop
 give_up_requires c κs =
-    let start = c.before.before.before.before.before.before.before.before in
-    let head = c.before.before.loop.invariant in
-    let g = head.1 start.requires.0.list start.requires.0.shown in
-    (record { list = _; shown = g.shown }, giving_inside _ _ _ _ _ g c.before.loop-test.true, start.requires.1, start.requires.2, head.0)
+    let head = c.loop-k.invariant in
+    let g = head.1 c.requires.0.list c.requires.0.shown in
+    (record { list = _; shown = g.shown }, giving_inside _ _ _ _ _ g c.loop-k-test.true, c.requires.1, c.requires.2, head.0)
 
-loop_again : tie.Need-loop-preserved invariant-loop decreases-loop
+loop_again : tie.Need-loop-k-preserved invariant-loop decreases-loop
 loop_again c =
-    let step = c.before.before.give-up.ensures in
-    (step.0, λ l shown. giving_turn _ l _ _ _ (c.before.before.before.before.before.loop.invariant.1 l shown) c.before.before.before.before.loop-test.true _ _ step.1)
+    let step = c.give_up-i.ensures in
+    (step.0, λ l shown. giving_turn _ l _ _ _ (c.loop-k.invariant.1 l shown) c.loop-k-test.true _ _ step.1)
 
-same_length : tie.Need-same-length invariant-loop decreases-loop
-same_length c = let start = c.before.before.before.before.before.before.before in (c.before.loop.invariant.1 start.requires.0.list start.requires.0.shown).shown.size ∙ sym start.requires.0.shown.size
+same_length : tie.Need-shape_of-b invariant-loop decreases-loop
+same_length c = (c.loop-k.invariant.1 c.requires.0.list c.requires.0.shown).shown.size ∙ sym c.requires.0.shown.size
 
 returns : tie.Need-returns invariant-loop decreases-loop
-returns c = λ l shown. giving_end _ l _ _ _ (c.before.loop.invariant.1 l shown) c.loop-test.false
+returns c = λ l shown. giving_end _ l _ _ _ (c.loop-k.invariant.1 l shown) c.loop-k-test.false
 
 pub give_up_all_spec : {M : Type 1} → statement M
 give_up_all_spec = tie.close (tie.spec invariant-loop decreases-loop (λ c κs. search rules) loop_holds

@@ -6,23 +6,23 @@ use Rattle.insertion.proofs.Noting.{Tallied, tally-start, tally-low, tally-insid
 use Rattle.insertion.proofs.note_losers.Statement.{statement}
 use Rattle.insertion.proofs.note_losers.Tie as tie
 
-abbrev invariant-loop : tie.invariant-loop
+abbrev invariant-loop : tie.invariant-loop-o
 invariant-loop b start end mask losers₀ any₀ o₀ losers any o = Tallied b mask losers start any o
 
-abbrev decreases-loop : tie.decreases-loop
+abbrev decreases-loop : tie.decreases-loop-o
 decreases-loop b start end mask losers₀ any₀ o₀ losers any o = end - o
 
-slice-write_losers : tie.Need-slice-write-losers invariant-loop decreases-loop
-slice-write_losers c = tally-inside _ _ _ _ _ _ _ _ c.before.before.before.before.loop.invariant (omega arith) c.before.before.before.before.before.before.before.before.requires.5 c.before.before.owner.ensures.0 c.if-taken.ensures
+slice-write_losers : tie.Need-bounds-losers-l invariant-loop decreases-loop
+slice-write_losers c = tally-inside _ _ _ _ _ _ _ _ c.loop-o.invariant (omega arith) c.requires.5 c.owner-w.ensures.0 c.if_taken-l.ensures
 
-add_any : tie.Need-overflow-add-any invariant-loop decreases-loop
+add_any : tie.Need-overflow_add-any invariant-loop decreases-loop
 add_any c =
-    let so = c.before.before.before.before.loop.invariant in
-    let low = tally-low _ _ _ _ _ _ _ _ so (omega arith) c.before.before.before.before.before.before.before.before.requires.5 c.before.before.owner.ensures.0 c.if-taken.ensures in
+    let so = c.loop-o.invariant in
+    let low = tally-low _ _ _ _ _ _ _ _ so (omega arith) c.requires.5 c.owner-w.ensures.0 c.if_taken-l.ensures in
     record { fits = omega (arith, so.sum) }
 
-loop_again : tie.Need-loop-preserved invariant-loop decreases-loop
-loop_again c = tally-turn _ _ _ _ _ _ _ _ c.before.before.before.before.loop.invariant (omega arith) c.before.before.before.before.before.before.before.before.requires.5 c.before.before.owner.ensures.0 c.if-taken.ensures
+loop_again : tie.Need-loop-o-preserved invariant-loop decreases-loop
+loop_again c = tally-turn _ _ _ _ _ _ _ _ c.loop-o.invariant (omega arith) c.requires.5 c.owner-w.ensures.0 c.if_taken-l.ensures
 
 pub note_losers_spec : {M : Type 1} → statement M
 note_losers_spec = tie.close (tie.spec invariant-loop decreases-loop (λ c. search (tally-start, rules)) (λ c κs. search rules) (λ c. omega arith) (λ c. omega arith)

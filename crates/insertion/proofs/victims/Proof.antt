@@ -12,16 +12,16 @@ use Rattle.insertion.proofs.MakingWay.{Making, making_start, making_facing, maki
 use Rattle.insertion.proofs.victims.Statement.{statement}
 use Rattle.insertion.proofs.victims.Tie as tie
 
-abbrev invariant-loop : tie.invariant-loop
+abbrev invariant-loop : tie.invariant-loop-k
 invariant-loop b₀ r mask z start i₀ k₀ b i k = (i + k ≤ z) × ((q : Parted b₀ mask r) → Making (as_record r q.owned) q.top q.rest b k i)
 
-abbrev decreases-loop : tie.decreases-loop
+abbrev decreases-loop : tie.decreases-loop-k
 decreases-loop b₀ r mask z start i₀ k₀ b i k = k
 
-loop_holds : tie.Need-loop-init invariant-loop decreases-loop
+loop_holds : tie.Need-loop-k-init invariant-loop decreases-loop
 loop_holds c =
-    let met = c.first-met.ensures in
-    let ends = c.before.before.level-end.ensures.1 in (
+    let met = c.first_met-i.ensures in
+    let ends = c.level_end-z.ensures.1 in (
       omega (arith, met.0),
       λ q.
           let z = ends q.top q.rest q.shown.slots in
@@ -30,34 +30,33 @@ loop_holds c =
 
 turn_requires : tie.Need-turn-requires invariant-loop decreases-loop
 turn_requires c κs =
-    let start = c.before.before.before.before.before.before.before.before.before in
-    (making_facing _ _ _ _ _ _ (c.before.before.loop.invariant.1 start.requires.0) c.before.loop-test.true, start.requires.1)
+    (making_facing _ _ _ _ _ _ (c.loop-k.invariant.1 c.requires.0) c.loop-k-test.true, c.requires.1)
 
-loop_again : tie.Need-loop-preserved invariant-loop decreases-loop
+loop_again : tie.Need-loop-k-preserved-in-Passed invariant-loop decreases-loop
 loop_again c =
-    let head = c.before.before.before.before.before.before.before.loop in
-    (omega (arith, head.invariant.0), λ q. making_turn _ _ _ _ _ _ (head.invariant.1 q) c.before.before.before.before.before.before.loop-test.true _ _ _ (λ f. c.before.before.before.before.turn.ensures f q.owned q.members) c.enum_told.given.1)
+    let head = c.loop-k in
+    (omega (arith, head.invariant.0), λ q. making_turn _ _ _ _ _ _ (head.invariant.1 q) c.loop-k-test.true _ _ _ (λ f. c.turn.ensures f q.owned q.members) c.in-Passed.is)
 
-loop_again_2 : tie.Need-loop-preserved-2 invariant-loop decreases-loop
+loop_again_2 : tie.Need-loop-k-preserved invariant-loop decreases-loop
 loop_again_2 c =
-    let head = c.before.before.before.before.before.before.before.loop in
-    (omega (arith, head.invariant.0), λ q. making_turn _ _ _ _ _ _ (head.invariant.1 q) c.before.before.before.before.before.before.loop-test.true _ _ _ (λ f. c.before.before.before.before.turn.ensures f q.owned q.members) c.enum-told2.given.1)
+    let head = c.loop-k in
+    (omega (arith, head.invariant.0), λ q. making_turn _ _ _ _ _ _ (head.invariant.1 q) c.loop-k-test.true _ _ _ (λ f. c.turn.ensures f q.owned q.members) c.in-Taken.is)
 
-same_length : tie.Need-same-length invariant-loop decreases-loop
+same_length : tie.Need-shape_of-b-in-Behind invariant-loop decreases-loop
 same_length c =
-    let q = c.before.before.before.before.before.before.before.before.before.before.before.before.before.before.requires.0 in
-    let way = making_turn _ _ _ _ _ _ (c.before.before.before.before.before.before.before.loop.invariant.1 q) c.before.before.before.before.before.before.loop-test.true _ _ _ (λ f. c.before.before.before.before.turn.ensures f q.owned q.members) c.enum-told3.given.1 in
+    let q = c.requires.0 in
+    let way = making_turn _ _ _ _ _ _ (c.loop-k.invariant.1 q) c.loop-k-test.true _ _ _ (λ f. c.turn.ensures f q.owned q.members) c.in-Behind.is in
     way.shown.size ∙ sym q.shown.size
 
-returns : tie.Need-returns invariant-loop decreases-loop
+returns : tie.Need-returns-in-Behind invariant-loop decreases-loop
 returns c = λ q.
-    making_turn _ _ _ _ _ _ (c.before.before.before.before.before.before.before.loop.invariant.1 q) c.before.before.before.before.before.before.loop-test.true _ _ _ (λ f. c.before.before.before.before.turn.ensures f q.owned q.members) c.enum-told3.given.1
+    making_turn _ _ _ _ _ _ (c.loop-k.invariant.1 q) c.loop-k-test.true _ _ _ (λ f. c.turn.ensures f q.owned q.members) c.in-Behind.is
 
-same_length_2 : tie.Need-same-length-2 invariant-loop decreases-loop
-same_length_2 c = let q = c.before.before.before.before.before.before.before.before.requires.0 in (c.before.loop.invariant.1 q).waiting.shown.size ∙ sym q.shown.size
+same_length_2 : tie.Need-shape_of-b invariant-loop decreases-loop
+same_length_2 c = let q = c.requires.0 in (c.loop-k.invariant.1 q).waiting.shown.size ∙ sym q.shown.size
 
-returns_2 : tie.Need-returns-2 invariant-loop decreases-loop
-returns_2 c = λ q. making_end _ _ _ _ _ _ (c.before.loop.invariant.1 q) c.loop-test.false
+returns_2 : tie.Need-returns invariant-loop decreases-loop
+returns_2 c = λ q. making_end _ _ _ _ _ _ (c.loop-k.invariant.1 q) c.loop-k-test.false
 
 pub victims_spec : {M : Type 1} → statement M
 victims_spec = tie.close (tie.spec invariant-loop decreases-loop (λ c κs. search (shown-room, rules)) (λ c κs. search (shown-room, rules)) (λ c. search rules) loop_holds

@@ -11,8 +11,8 @@ use Rattle.octets.proofs.put_i32.Tie as tie
 returns : tie.Need-returns
 returns c =
     let start = c.before.before.before.before.before.before in
-    c.before.before.put-u32.ensures
-    ∙ ap (λ (v : ℕ). store start.args.s.now start.args.p (bytes4 v)) (c.before.before.before.from-signed.ensures ∙ ap bits32 (to_z-of_z start.ranges.z))
+    c.before.before.put_u32.ensures
+    ∙ ap (λ (v : ℕ). store start.args.s.now start.args.p (bytes4 v)) (c.before.before.before.from_signed.ensures ∙ ap bits32 (to_z-of_z start.ranges.z))
 
 pub put_i32_spec : {M : Type 1} → statement M
 put_i32_spec = tie.close (tie.spec (λ c κs. search rules) (λ c κs. search rules) (λ c. search rules) returns)

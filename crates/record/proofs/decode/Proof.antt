@@ -10,10 +10,10 @@ use Rattle.record.proofs.decode.Tie as tie
 returns : tie.Need-returns
 unfolding record_at
 returns c =
-    let start = c.before.before.before.get-u8.ensures in
-    let span = c.before.before.get-u82.ensures in
-    let word = c.before.get-u16.ensures in
-    let intercept = to_z-of_z {w = w32} (record { sfits = c.get-i32.type-inv }) ∙ c.get-i32.ensures in
+    let start = c.before.before.before.get_u8-start.ensures in
+    let span = c.before.before.get_u8-span.ensures in
+    let word = c.before.get_u16-word.ensures in
+    let intercept = to_z-of_z {w = w32} (record { sfits = c.get_i32-intercept.type_inv }) ∙ c.get_i32-intercept.ensures in
     (rw (start.0, span.0, word.0, intercept), (start.1, span.1, word.1))
 
 pub decode_spec : {M : Type 1} → statement M

@@ -8,10 +8,9 @@ use Rattle.slots.proofs.insert.Tie as tie
 
 returns : tie.Need-returns
 returns c =
-    let start = c.before.before.before.before.before.before.before.before.before.before.before.before.before.before.before in
-    let n = c.before.before.before.before.before.before.before.before.before.before.before.before.used.ensures in
-    insert-shows _ _ _ _ _ _ _ start.requires.0 n.0 (omega arith) (omega arith) start.requires.3 (record { sfits = start.well-formed.1.1.0.1.1.1.0.1.1.1.1.1.0.1 })
-    c.before.before.before.before.before.before.before.before.before.before.open-slot.ensures c.before.before.before.before.before.before.write.ensures c.before.before.put-u16.ensures
+    let n = c.used-n.ensures in
+    insert-shows _ _ _ _ _ _ _ c.requires.0 n.0 (omega arith) (omega arith) c.requires.3 (record { sfits = c.well_formed.1.1.0.1.1.1.0.1.1.1.1.1.0.1 })
+    c.open_slot.ensures c.write.ensures c.put_u16.ensures
 
 pub insert_spec : {M : Type 1} → statement M
 insert_spec = tie.close (tie.spec (λ c κs. search rules) (λ c. search rules)

@@ -8,24 +8,24 @@ use Rattle.slots.specs.Edits.{push_down_from}
 use Rattle.slots.proofs.push_down.Statement.{statement}
 use Rattle.slots.proofs.push_down.Tie as tie
 
-abbrev invariant-loop : tie.invariant-loop
+abbrev invariant-loop : tie.invariant-loop-j
 invariant-loop b₀ i n j₀ b j = Changing (push_down_from 0) (push_down_from i (slots_of b₀)) b₀ b n j × Lowerable b n j
 
-abbrev decreases-loop : tie.decreases-loop
+abbrev decreases-loop : tie.decreases-loop-j
 decreases-loop b₀ i n j₀ b j = n - j
 
 relevel_requires : tie.Need-relevel-requires invariant-loop decreases-loop
 relevel_requires c κs =
-    let so = c.before.before.before.before.loop in
+    let so = c.loop-j in
     let count = so.invariant.0.count in
     let low = so.invariant.1 so.j (omega arith) (omega arith) in
-    (so.invariant.0.room, omega arith, omega (arith, c.before.level.ensures.0))
+    (so.invariant.0.room, omega arith, omega (arith, c.level-l.ensures.0))
 
-loop_again : tie.Need-loop-preserved invariant-loop decreases-loop
+loop_again : tie.Need-loop-j-preserved invariant-loop decreases-loop
 loop_again c =
-    let so = c.before.before.before.before.before.before.before.loop.invariant in
-    let done = c.before.before.relevel.ensures in (
-      change_turn _ _ _ _ _ _ so.0 _ _ _ c.before.before.before.before.before.before.loop-test.true done (push_one _ _ c.before.before.before.before.level.ensures.0),
+    let so = c.loop-j.invariant in
+    let done = c.relevel.ensures in (
+      change_turn _ _ _ _ _ _ so.0 _ _ _ c.loop-j-test.true done (push_one _ _ c.level-l.ensures.0),
       down_turn _ _ _ _ _ done.1 so.1,
     )
 

@@ -8,9 +8,8 @@ use Rattle.slots.proofs.remove.Tie as tie
 
 returns : tie.Need-returns
 returns c =
-    let n = c.before.before.before.before.before.before.before.before.used.ensures in
-    let start = c.before.before.before.before.before.before.before.before.before.before.before in
-    remove-shows _ _ _ _ _ start.requires.0.0 n.0 (omega arith) (omega arith) c.before.before.before.before.before.before.close-slot.ensures c.before.before.put-u16.ensures
+    let n = c.used-n.ensures in
+    remove-shows _ _ _ _ _ c.requires.0.0 n.0 (omega arith) (omega arith) c.close_slot.ensures c.put_u16.ensures
 
 pub remove_spec : {M : Type 1} → statement M
 remove_spec = tie.close (tie.spec (λ c κs. search rules) (λ c. search rules)

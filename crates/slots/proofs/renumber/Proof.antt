@@ -7,13 +7,13 @@ use borrow.Author.Rules.{rules}
 use Rattle.slots.proofs.renumber.Statement.{statement}
 use Rattle.slots.proofs.renumber.Tie as tie
 
-returns : tie.Need-returns
+returns : tie.Need-returns-then-l-old
 unfolding renumbered
-returns c = (rw (eq-eqb _ _ c.if1.true, renumbered), omega arith)
+returns c = (rw (eq-eqb _ _ c.if-l-old.true, renumbered), omega arith)
 
-returns_2 : tie.Need-returns-2
+returns_2 : tie.Need-returns
 unfolding renumbered
-returns_2 c = (rw (ne_eqb _ _ c.if1.false, renumbered) (add-one _), omega arith)
+returns_2 c = (rw (ne_eqb _ _ c.if-l-old.false, renumbered) (add-one _), omega arith)
 
 pub renumber_spec : {M : Type 1} → statement M
 renumber_spec = tie.close (tie.spec returns (λ c. search rules) returns_2)

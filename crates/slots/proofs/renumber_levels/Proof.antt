@@ -8,18 +8,18 @@ use Rattle.slots.proofs.SlotPass.{behind_first, Changing, change_turn, change_en
 use Rattle.slots.proofs.renumber_levels.Statement.{statement}
 use Rattle.slots.proofs.renumber_levels.Tie as tie
 
-abbrev invariant-loop : tie.invariant-loop
+abbrev invariant-loop : tie.invariant-loop-k
 invariant-loop b₀ n old₀ new₀ k₀ b old new k = Changing (renumber_levels old new) (renumber_levels 0 0 (slots_of b₀)) b₀ b n k × (new ≤ k)
 
-abbrev decreases-loop : tie.decreases-loop
+abbrev decreases-loop : tie.decreases-loop-k
 decreases-loop b₀ n old₀ new₀ k₀ b old new k = n - k
 
-loop_again : tie.Need-loop-preserved invariant-loop decreases-loop
+loop_again : tie.Need-loop-k-preserved invariant-loop decreases-loop
 loop_again c =
-    let so = c.before.before.before.before.before.before.before.before.loop.invariant in
-    let number = c.before.before.before.before.renumber.ensures in
-    let turn = renumber_one _ _ _ _ _ c.before.before.before.before.before.level.ensures.0 number.0 in (
-      change_turn _ _ _ _ _ _ so.0 _ _ _ c.before.before.before.before.before.before.before.loop-test.true c.before.before.relevel.ensures turn,
+    let so = c.loop-k.invariant in
+    let number = c.renumber-new.ensures in
+    let turn = renumber_one _ _ _ _ _ c.level-l.ensures.0 number.0 in (
+      change_turn _ _ _ _ _ _ so.0 _ _ _ c.loop-k-test.true c.relevel.ensures turn,
       omega (arith, number.1, so.1),
     )
 

@@ -10,18 +10,18 @@ use Rattle.spare.proofs.copy.Statement.{statement}
 use Rattle.spare.proofs.copy.Tie as tie
 
 -- what the whole copy gives is what copying the rest gives from here
-abbrev invariant-loop : tie.invariant-loop
+abbrev invariant-loop : tie.invariant-loop-j
 invariant-loop to₀ at from i m j₀ to j = (j ≤ m) × (length to ≡ length to₀) × (store to₀ at (take m (drop i from)) ≡ store to (at + j) (take (m - j) (drop (i + j) from)))
 
-abbrev decreases-loop : tie.decreases-loop
+abbrev decreases-loop : tie.decreases-loop-j
 decreases-loop to₀ at from i m j₀ to j = m - j
 
-loop_again : tie.Need-loop-preserved invariant-loop decreases-loop
+loop_again : tie.Need-loop-j-preserved invariant-loop decreases-loop
 loop_again c =
-    (omega arith, simp length-set (omega arith), c.before.before.loop.invariant.2 ∙ copy-turn _ _ _ _ _ _ c.before.before.before.requires.1 c.before.loop-test.true)
+    (omega arith, simp length-set (omega arith), c.loop-j.invariant.2 ∙ copy-turn _ _ _ _ _ _ c.requires.1 c.loop-j-test.true)
 
 returns : tie.Need-returns invariant-loop decreases-loop
-returns c = sym (c.before.loop.invariant.2 ∙ copy-end _ _ _ _ _ _ c.loop-test.false)
+returns c = sym (c.loop-j.invariant.2 ∙ copy-end _ _ _ _ _ _ c.loop-j-test.false)
 
 pub copy_spec : {M : Type 1} → statement M
 copy_spec = tie.close (tie.spec invariant-loop decreases-loop (λ c. search (copy_start, rules)) (λ c. omega arith) (λ c. omega arith) (λ c. omega arith)

@@ -5,8 +5,8 @@ use Rattle.spare.proofs.Sizes.{sizes, block_size}
 use Rattle.spare.proofs.entries_per_block.Statement.{statement}
 use Rattle.spare.proofs.entries_per_block.Tie as tie
 
-mul_result : tie.Need-overflow-mul-result
-mul_result c = omega (arith, (sizes _ c.before.before.requires).block, block_size _ _ c.before.entries-per-page.ensures)
+mul_result : tie.Need-overflow_mul-result
+mul_result c = omega (arith, (sizes _ c.requires).block, block_size _ _ c.entries_per_page.ensures)
 
 pub entries_per_block_spec : {M : Type 1} → statement M
 entries_per_block_spec = tie.close (tie.spec (λ c κs. search rules) mul_result (λ c. search (block_size, rules)))

@@ -9,19 +9,19 @@ use Rattle.spare.proofs.entry.Statement.{statement}
 use Rattle.spare.proofs.entry.Tie as tie
 
 -- the place is one of the spare area
-inside : (c : tie.After-entries-per-page) → c.before.before.args.p * c.entries-per-page.result + c.before.before.args.j < length c.before.before.args.spare.now
-inside c = omega (arith, c.before.before.requires.1, entry-inside _ _ _ _ c.entries-per-page.ensures c.before.before.requires.2 c.before.before.requires.3)
+inside : (c : tie.After-entries_per_page) → c.args.p * c.entries_per_page.result + c.args.j < length c.args.spare.now
+inside c = omega (arith, c.requires.1, entry-inside _ _ _ _ c.entries_per_page.ensures c.requires.2 c.requires.3)
 
-small : (c : tie.After-entries-per-page) → length c.before.before.args.spare.now ≤ 32505856
-small c = omega (arith, c.before.before.requires.1, (sizes _ c.before.before.requires.0).area)
+small : (c : tie.After-entries_per_page) → length c.args.spare.now ≤ 32505856
+small c = omega (arith, c.requires.1, (sizes _ c.requires.0).area)
 
-mul_at : tie.Need-overflow-mul-at
+mul_at : tie.Need-overflow_mul-at
 mul_at c = omega (arith, inside c, small c)
 
-add_at : tie.Need-overflow-add-at
+add_at : tie.Need-overflow_add-at
 add_at c = omega (arith, inside c, small c)
 
-cast_at : tie.Need-overflow-cast-at
+cast_at : tie.Need-overflow_cast-at
 cast_at c = omega (arith, inside c, small c)
 
 pub entry_spec : {M : Type 1} → statement M

@@ -6,7 +6,7 @@ use Rattle.spare.proofs.erase_all.Statement.{statement}
 use Rattle.spare.proofs.erase_all.Tie as tie
 
 returns : tie.Need-returns
-returns c = c.before.before.blank.ensures ∙ fill_all _ _
+returns c = c.blank.ensures ∙ fill_all _ _
 
 pub erase_all_spec : {M : Type 1} → statement M
 erase_all_spec = tie.close (tie.spec (λ c κs. search rules) (λ c. search rules) returns)

@@ -8,7 +8,7 @@ use Rattle.spare.proofs.middle.Statement.{statement}
 use Rattle.spare.proofs.middle.Tie as tie
 
 entry_requires : tie.Need-entry-requires
-entry_requires c κs = (c.before.requires.0, c.before.requires.1, c.before.requires.2, omega (arith, g_inside (numbers_of c.before.args.d), names-inside (numbers_of c.before.args.d)))
+entry_requires c κs = (c.requires.0, c.requires.1, c.requires.2, omega (arith, g_inside (numbers_of c.args.d), names-inside (numbers_of c.args.d)))
 
 pub middle_spec : {M : Type 1} → statement M
 middle_spec = tie.close (tie.spec entry_requires (λ c. unfold middle in search rules))

@@ -7,12 +7,12 @@ use Rattle.spare.proofs.Naming.{names-before, names-behind, names-inside}
 use Rattle.spare.proofs.names.Statement.{statement}
 use Rattle.spare.proofs.names.Tie as tie
 
-add_q : tie.Need-overflow-add-q
-add_q c = let s = c.before.requires in omega (arith, s.2, s.3, sizes _ s.0)
+add_q : tie.Need-overflow_add-q
+add_q c = let s = c.requires in omega (arith, s.2, s.3, sizes _ s.0)
 
-mul_if2 : tie.Need-overflow-mul-if2
+mul_if2 : tie.Need-overflow_mul-d
 unfolding pages
-mul_if2 c = omega (arith, (sizes _ c.before.before.before.requires.0).count)
+mul_if2 c = omega (arith, (sizes _ c.requires.0).count)
 
 pub names_spec : {M : Type 1} → statement M
 names_spec = tie.close (tie.spec add_q (λ c. search (names-before, rules)) mul_if2

@@ -6,8 +6,8 @@ use Rattle.spare.proofs.Naming.{named-predicted, named-near}
 use Rattle.spare.proofs.page_named.Statement.{statement}
 use Rattle.spare.proofs.page_named.Tie as tie
 
-returns_2 : tie.Need-returns-2
-returns_2 c = c.lowest-naming.ensures ∙ named-near _ _ _ _ _ c.before.before.middle.ensures c.before.if1.false
+returns_2 : tie.Need-returns
+returns_2 c = c.lowest_naming.ensures ∙ named-near _ _ _ _ _ c.middle.ensures c.if-middle-x.false
 
 pub page_named_spec : {M : Type 1} → statement M
 page_named_spec = tie.close (tie.spec (λ c κs. search rules) (λ c. unfold named_of in search (named-predicted, rules))

@@ -12,64 +12,58 @@ use borrow.Author.Rules.{rules}
 use Rattle.learn.proofs.runs.accurate.Statement.{statement}
 use Rattle.learn.proofs.runs.accurate.Tie as tie
 
-abbrev start₁ : tie.Else1 → tie.Start
-start₁ c = c.before.before.before.before
-
 -- a page of the group stands at the next place, one stride on
-goes : (c : tie.Else1) → Goes (start₁ c).args.written.now (get_or (start₁ c).args.written.now (start₁ c).args.i 0 / 256) ((start₁ c).args.i + 1)
-goes c = ahead_some _ _ _ (sym c.before.ended.ensures ∙ c.if1.false)
+goes : (c : tie.Else-ended) → Goes c.args.written.now (get_or c.args.written.now c.args.i 0 / 256) (c.args.i + 1)
+goes c = ahead_some _ _ _ (sym c.ended.ensures ∙ c.if-ended.false)
 
-abbrev stride : tie.Else1 → ℕ
-stride c = get_or (start₁ c).args.written.now ((start₁ c).args.i + 1) 0 - get_or (start₁ c).args.written.now (start₁ c).args.i 0
+abbrev stride : tie.Else-ended → ℕ
+stride c = get_or c.args.written.now (c.args.i + 1) 0 - get_or c.args.written.now c.args.i 0
 
-small : (c : tie.Else1) → (1 ≤ stride c) × (stride c ≤ 255)
-small c = stride-small _ _ (start₁ c).requires.0 (goes c)
+small : (c : tie.Else-ended) → (1 ≤ stride c) × (stride c ≤ 255)
+small c = stride-small _ _ c.requires.0 (goes c)
 
-returns : tie.Need-returns
+returns : tie.Need-returns-then-ended
 returns c =
-    let none = ahead_none _ _ _ (sym c.before.before.ended.ensures ∙ c.before.if1.true) in
-    let z = to_z-of_z {w = w32} (record { sfits = c.less.type-inv }) ∙ c.less.ensures in (
+    let none = ahead_none _ _ _ (sym c.ended.ensures ∙ c.if-ended.true) in
+    let z = to_z-of_z {w = w32} (record { sfits = c.less.type_inv }) ∙ c.less.ensures in (
       λ g. single_at _ _ _ _ none z,
-      (omega arith, omega (arith, c.before.before.before.before.before.requires.1)),
+      (omega arith, omega (arith, c.requires.1)),
     )
 
-shared-slice-read_d : tie.Need-shared-slice-read-d
+shared-slice-read_d : tie.Need-bounds-written-i-2
 shared-slice-read_d c = (goes c.before).inside
 
-sub_d : tie.Need-overflow-sub-d
+sub_d : tie.Need-overflow_sub-d
 sub_d c = omega (arith, (small c.before).0)
 
-stride_end_requires : tie.Need-stride-end-requires
-stride_end_requires c κs = ((goes c.before).inside, (start₁ c.before).requires.0)
+stride_end_requires : tie.Need-stride_end-e-requires
+stride_end_requires c κs = ((goes c.before).inside, c.requires.0)
 
-sub_t18 : tie.Need-overflow-sub-t18
+sub_t18 : tie.Need-overflow_sub-result
 sub_t18 c =
-    let e = c.before.stride-end.ensures in
-    rises_to _ _ _ (start₁ c.before.before.before).requires.0 (omega (arith, e.0)) e.1
+    let e = c.stride_end-e.ensures in
+    rises_to _ _ _ c.requires.0 (omega (arith, e.0)) e.1
 
-mul_t19 : tie.Need-overflow-mul-t19
+mul_t19 : tie.Need-overflow_mul-result
 mul_t19 c = omega (arith, (small c.before.before.before).1)
 
-sub-less : tie.Need-overflow-sub-less
+sub-less : tie.Need-overflow_sub-d-2
 sub-less c = (small c.before.before.before).0
 
-add_less : tie.Need-overflow-add-less
+add_less : tie.Need-overflow_add-s
 add_less c = omega (arith, (small c.before.before.before).1)
 
 less_requires_2 : tie.Need-less-requires-2
-less_requires_2 c κs =
-    let test = c.before.before.before in
-    let start = start₁ test in (
-      omega (arith, start.pre.1, start.pre.2),
-      omega (arith, quotient_small (get_or start.args.written.now start.args.i 0 % 256) (stride test) (omega arith) (small test).1),
-    )
+less_requires_2 c κs = (
+  omega (arith, c.requires.1, c.requires.2),
+  omega (arith, quotient_small (get_or c.args.written.now c.args.i 0 % 256) (stride c.before.before.before) (omega arith) (small c.before.before.before).1),
+)
 
-returns_2 : tie.Need-returns-2
+returns_2 : tie.Need-returns
 returns_2 c =
-    let test = c.before.before.before.before in
-    let e = c.before.before.stride-end.ensures in
-    let z = to_z-of_z {w = w32} (record { sfits = c.less2.type-inv }) ∙ c.less2.ensures in (
-      λ g. strided_at _ _ (start₁ test).requires.0 (goes test) _ e.0 _ _ z,
+    let e = c.stride_end-e.ensures in
+    let z = to_z-of_z {w = w32} (record { sfits = c.less-2.type_inv }) ∙ c.less-2.ensures in (
+      λ g. strided_at _ _ c.requires.0 (goes c.before.before.before.before) _ e.0 _ _ z,
       (omega arith, omega (arith, e.0, e.1)),
     )
 

@@ -27,58 +27,47 @@ some c =
     let w = c.args.written.now in
     omega (arith, c.requires.1.1, filled w c.args.s.place (bounds_of c.args.s.g c.args.first w))
 
-longest_requires : tie.Need-longest-requires
+longest_requires : tie.Need-longest-size-requires
 longest_requires c κs =
-    let start = c.before.before.before.before in
-    let p = start.requires in
-    (p.0, c.before.find-lines.ensures, some start, p.2)
+    let p = c.requires in
+    (p.0, c.find_lines.ensures, some c.before.before.before.before, p.2)
 
 -- no slope goes farther
-returns : tie.Need-returns
+returns : tie.Need-returns-then-size-n
 returns c =
-    let start = c.before.before.before.before.before.before in
-    let p = start.requires in
-    let e = stays-accurate start.args.s.g start.args.first start.args.written.now start.args.s.place (here start) p.3
-    (omega (arith, c.before.longest.ensures, c.if1.true, p.1.1)) in
-    (subst (IsRun _) e p.1, (some start, omega (arith, p.2)))
+    let p = c.requires in
+    let e = stays-accurate c.args.s.g c.args.first c.args.written.now c.args.s.place (here c.before.before.before.before.before.before) p.3
+    (omega (arith, c.longest-size.ensures, c.if-size-n.true, p.1.1)) in
+    (subst (IsRun _) e p.1, (some c.before.before.before.before.before.before, omega (arith, p.2)))
 
--- a slope does
-abbrev start₁ : tie.Else1 → tie.Start
-start₁ c = c.before.before.before.before.before.before
-
-farther : (c : tie.Else1) → (c.before.longest.result ≡ longest_of (start₁ c).args.s.g (start₁ c).args.written.now (start₁ c).args.s.place 0 255)
-    × ((start₁ c).args.r.taken < c.before.longest.result)
-farther c = (omega (arith, c.before.longest.ensures, c.if1.false), omega (arith, c.before.longest.ensures, c.if1.false))
+farther : (c : tie.Else-size-n) → (c.longest-size.result ≡ longest_of c.args.s.g c.args.written.now c.args.s.place 0 255)
+    × (c.args.r.taken < c.longest-size.result)
+farther c = (omega (arith, c.longest-size.ensures, c.if-size-n.false), omega (arith, c.longest-size.ensures, c.if-size-n.false))
 
 best_requires : tie.Need-best-requires
 best_requires c κs =
-    let test = c.before in
-    let start = start₁ test in
-    let p = start.pre in
-    let b = bounds_of start.args.s.g start.args.first start.args.written.now in
-    let n = group-small _ _ _ p.0.ascends (ends start) b (omega (arith, p.1.1, p.2)) in
-    let m = longest-inside start.args.s.g start.args.first _ _ (here start) p.3 _ p.0.ascends (ends start) in
-    let f = farther test in
-    (p.0, test.before.before.before.find-lines.ensures, omega (arith, f.1, some start), omega (arith, f.0, n, m), f.0)
+    let p = c.requires in
+    let b = bounds_of c.args.s.g c.args.first c.args.written.now in
+    let n = group-small _ _ _ p.0.ascends (ends c.before.before.before.before.before.before.before) b (omega (arith, p.1.1, p.2)) in
+    let m = longest-inside c.args.s.g c.args.first _ _ (here c.before.before.before.before.before.before.before) p.3 _ p.0.ascends (ends c.before.before.before.before.before.before.before) in
+    let f = farther c.before in
+    (p.0, c.find_lines.ensures, omega (arith, f.1, some c.before.before.before.before.before.before.before), omega (arith, f.0, n, m), f.0)
 
 found : (c : tie.After-best) →
-    let start = start₁ c.before.before in
-    RunBy (bounds_of start.args.s.g start.args.first start.args.written.now) start.args.written.now start.args.s.place
-    (on_pages start.args.first (as_fit c.best.result)) start.args.s.end
+    RunBy (bounds_of c.args.s.g c.args.first c.args.written.now) c.args.written.now c.args.s.place
+    (on_pages c.args.first (as_fit c.best.result)) c.args.s.end
 found c =
-    let test = c.before.before in
-    let start = start₁ test in
-    let p = start.pre in
-    let f = farther test in
-    goes-approximate _ _ _ _ (here start) p.3 _ p.0.ascends (ends start) _ _ f.0 c.best.ensures (omega (arith, f.1, p.1.1))
+    let p = c.requires in
+    let f = farther c.before.before in
+    goes-approximate _ _ _ _ (here c.before.before.before.before.before.before.before.before) p.3 _ p.0.ascends (ends c.before.before.before.before.before.before.before.before) _ _ f.0 c.best.ensures (omega (arith, f.1, p.1.1))
 
 approximate_requires : tie.Need-approximate-requires
 approximate_requires c κs =
-    let p = (start₁ c.before.before).requires in
+    let p = c.requires in
     let u = found c in
     (omega (arith, u.room, p.0.end), u.filled, u.rising, u.slope, omega (arith, u.intercept, p.4))
 
-returns_2 : tie.Need-returns-2
+returns_2 : tie.Need-returns
 returns_2 c =
     let u = found c.before in
     let t = c.approximate.ensures in

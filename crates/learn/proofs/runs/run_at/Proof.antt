@@ -1,4 +1,4 @@
--- `run_at_lem` meets its contract: where no approximate run can be longer, the accurate one is the run.
+-- `run_at` meets its contract: where no approximate run can be longer, the accurate one is the run.
 use Prim.Native.Nat.{◌+◌, ◌/◌}
 use native.Mathlib.Omega.{arith}
 use mathlib.Core.Path.{sym, ◌∙◌, subst}
@@ -12,40 +12,36 @@ use Rattle.learn.proofs.runs.run_at.Statement.{statement}
 use Rattle.learn.proofs.runs.run_at.Tie as tie
 
 -- without an error bound
-returns : tie.Need-returns
-returns c = subst (IsRun _) (takes-exact _ _ _ c.if1.true) (c.before.accurate.ensures.0 c.before.before.before.args.g)
+returns : tie.Need-returns-then-g-eq0
+returns c = subst (IsRun _) (takes-exact _ _ _ c.if-g-eq0.true) (c.accurate-r.ensures.0 c.args.g)
 
 -- the accurate run takes all pages
-returns_2 : tie.Need-returns-2
+returns_2 : tie.Need-returns-then-ended
 returns_2 c =
-    let test = c.before.before.before.before in
-    let start = test.before.before.before in
-    let r = test.before.accurate.ensures.0 start.args.g in
-    let none = ahead_none _ _ _ (sym c.before.ended.ensures ∙ c.if2.true) in
-    subst (IsRun _) (takes_all _ _ _ _ start.requires.1 (omega (arith, test.if1.false)) _ r.1 none) r
+    let r = c.accurate-r.ensures.0 c.args.g in
+    let none = ahead_none _ _ _ (sym c.ended.ensures ∙ c.if-ended.true) in
+    subst (IsRun _) (takes_all _ _ _ _ c.requires.1 (omega (arith, c.if-g-eq0.false)) _ r.1 none) r
 
 longer_requires : tie.Need-longer-requires
 longer_requires c κs =
-    let test = c.before.before.before.before.before in
-    let start = test.before.before.before in
-    let w = start.args.written.now in
-    let p = start.requires.0 in
-    let e = c.group-end.ensures in
-    let n = test.before.accurate.result.taken in
-    let goes : Goes w (get_or w start.args.i 0 / 256) (start.args.i + n) = ahead_some _ _ _ (sym c.before.before.ended.ensures ∙ c.before.if2.false) in (
+    let w = c.args.written.now in
+    let p = c.requires.0 in
+    let e = c.group_end-end.ensures in
+    let n = c.accurate-r.result.taken in
+    let goes : Goes w (get_or w c.args.i 0 / 256) (c.args.i + n) = ahead_some _ _ _ (sym c.ended.ensures ∙ c.if-ended.false) in (
       record {
         ascends = p.ascends;
         size = p.size;
         bound = p.bound;
-        last = omega (arith, start.requires.1);
+        last = omega (arith, c.requires.1);
         inside = e.inside;
         end = e.end;
         group = e.group;
         ended = e.ended;
       },
-      test.before.accurate.ensures.0 start.args.g,
+      c.accurate-r.ensures.0 c.args.g,
       before-end _ _ p.ascends _ _ e (omega arith) goes,
-      omega (arith, test.if1.false),
+      omega (arith, c.if-g-eq0.false),
       p.pages,
     )
 

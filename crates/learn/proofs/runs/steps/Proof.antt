@@ -9,27 +9,26 @@ use Rattle.learn.proofs.Strides.{stride_joins, strides_none}
 use Rattle.learn.proofs.runs.steps.Statement.{statement}
 use Rattle.learn.proofs.runs.steps.Tie as tie
 
-abbrev invariant-loop : tie.invariant-loop
+abbrev invariant-loop : tie.invariant-loop-l
 invariant-loop written j d so₀ l₀ so l = (l ≤ 16) × (so ≡ true → Strides written d j (j + l))
 
-abbrev decreases-loop : tie.decreases-loop
+abbrev decreases-loop : tie.decreases-loop-l
 decreases-loop written j d so₀ l₀ so l = 16 - l
 
-sub_so : tie.Need-overflow-sub-so invariant-loop decreases-loop
+sub_so : tie.Need-overflow_sub-so invariant-loop decreases-loop
 sub_so c =
-    let start = c.before.before.before.before in
-    let j = start.args.j + c.before.before.before.loop.l in
-    omega (arith, rises _ j (j + 1) start.requires.0 (omega arith) (omega (arith, start.requires.1)))
+    let j = c.args.j + c.loop-l.l in
+    omega (arith, rises _ j (j + 1) c.requires.0 (omega arith) (omega (arith, c.requires.1)))
 
-loop_again : tie.Need-loop-preserved invariant-loop decreases-loop
+loop_again : tie.Need-loop-l-preserved invariant-loop decreases-loop
 loop_again c =
-    let v = c.before.before.before.loop.invariant in
+    let v = c.loop-l.invariant in
     (omega arith, λ e. stride_joins _ _ _ _ _ v.1 e)
 
 returns : tie.Need-returns invariant-loop decreases-loop
 returns c e =
-    let v = c.before.loop.invariant in
-    let n : c.before.loop.l ≡ 16 = omega (arith, v.0) in
+    let v = c.loop-l.invariant in
+    let n : c.loop-l.l ≡ 16 = omega (arith, v.0) in
     rw n at (v.1 e)
 
 pub steps_spec : {M : Type 1} → statement M

@@ -12,12 +12,12 @@ use Rattle.record.proofs.Record.predict.Statement.{statement}
 use Rattle.record.proofs.Record.predict.Tie as tie
 
 -- the intercept has 32 bits
-fits : (c : tie.After-struct-told) → SFits w32 c.before.before.before.args.self.intercept
-fits c = record { sfits = c.struct_told.given.1.1.1.0.1 }
+fits : (c : tie.After-struct_told-1) → SFits w32 c.before.before.before.args.self.intercept
+fits c = record { sfits = c.struct_told-1.given.1.1.1.0.1 }
 
 returns : tie.Need-returns
 unfolding predict
-returns c = λ L. sum_is _ c.before.before.rise.result (fits c) (omega arith) ∙ ap (λ (n : ℕ). c.before.before.before.args.self.intercept +ℤ pos n) (c.before.before.rise.ensures L)
+returns c = λ L. sum_is _ c.before.before.rise-up.result (fits c) (omega arith) ∙ ap (λ (n : ℕ). c.before.before.before.args.self.intercept +ℤ pos n) (c.before.before.rise-up.ensures L)
 
 pub predict_spec : {M : Type 1} → statement M
 predict_spec = tie.close (tie.spec (λ c κs. search rules) (λ c. search (wide, fits, rules)) (λ c. search rules)

@@ -6,12 +6,12 @@ use borrow.Author.Rules.{rules}
 use Rattle.record.proofs.Record.rise.Statement.{statement}
 use Rattle.record.proofs.Record.rise.Tie as tie
 
-mul_result : tie.Need-overflow-mul-result
+mul_result : tie.Need-overflow_mul-result
 mul_result c =
     let h : c.before.before.args.self.word / 2 ≤ 256 = omega arith in
     omega (arith, slope-small _ _ h c.before.before.requires.1)
 
-add_result_2 : tie.Need-overflow-add-result-2
+add_result_2 : tie.Need-overflow_add-result-2
 add_result_2 c =
     let h : c.before.before.args.self.word / 2 ≤ 256 = omega arith in
     omega (arith, slope-small _ _ h c.before.before.requires.1)

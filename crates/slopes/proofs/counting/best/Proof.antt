@@ -9,46 +9,40 @@ use Rattle.slopes.proofs.BestRun.{none_longer, longest-inside, below-size, below
 use Rattle.slopes.proofs.counting.best.Statement.{statement}
 use Rattle.slopes.proofs.counting.best.Tie as tie
 
-abbrev invariant-loop : tie.invariant-loop
+abbrev invariant-loop : tie.invariant-loop-next
 invariant-loop written ends s size w f₀ next₀ f next = as_fit f ≡ bettered s.g written s.place (no_fit size) 0 (min next 256)
 
-abbrev decreases-loop : tie.decreases-loop
+abbrev decreases-loop : tie.decreases-loop-next
 decreases-loop written ends s size w f₀ next₀ f next = 256 - next
 
-abbrev start : tie.Else1 invariant-loop decreases-loop → tie.Start invariant-loop decreases-loop
-start c = c.before.before.before.before.before.before
-
-abbrev start' : tie.After-smaller invariant-loop decreases-loop → tie.Start invariant-loop decreases-loop
-start' c = c.before.before.before.before.before.before.before
-
-add_slopes_to : tie.Need-overflow-add-slopes-to invariant-loop decreases-loop
-add_slopes_to c = let p = c.before.before.requires in
+add_slopes_to : tie.Need-overflow_add-s invariant-loop decreases-loop
+add_slopes_to c = let p = c.requires in
     omega (arith, p.0, p.3)
 
-sub-slopes_to : tie.Need-overflow-sub-slopes-to invariant-loop decreases-loop
-sub-slopes_to c = omega (arith, c.before.before.requires.2)
+sub-slopes_to : tie.Need-overflow_sub-s invariant-loop decreases-loop
+sub-slopes_to c = omega (arith, c.requires.2)
 
-slopes_to_requires : tie.Need-slopes-to-requires invariant-loop decreases-loop
+slopes_to_requires : tie.Need-slopes_to-w-requires invariant-loop decreases-loop
 slopes_to_requires c κs =
-    let p = c.before.before.requires in
+    let p = c.requires in
     let inside = longest-inside _ _ p.0 _ (omega (arith, p.2)) p.4 in
     (p.0, omega (arith, p.2), omega (arith, p.2, inside))
 
-add_t9 : tie.Need-overflow-add-t9 invariant-loop decreases-loop
-add_t9 c = omega (arith, c.before.before.before.requires.3)
+add_t9 : tie.Need-overflow_add-f invariant-loop decreases-loop
+add_t9 c = omega (arith, c.requires.3)
 
-loop_holds : tie.Need-loop-init invariant-loop decreases-loop
+loop_holds : tie.Need-loop-next-init invariant-loop decreases-loop
 loop_holds c =
-    let p = c.before.before.before.requires in
-    below-start _ _ p.0 _ (omega (arith, p.2)) p.4 _ _ _ (omega arith) c.slopes-to.ensures.1
+    let p = c.requires in
+    below-start _ _ p.0 _ (omega (arith, p.2)) p.4 _ _ _ (omega arith) c.slopes_to-w.ensures.1
 
-better_requires : tie.Need-better-requires invariant-loop decreases-loop
+better_requires : tie.Need-better-f-requires invariant-loop decreases-loop
 better_requires c κs =
-    let p = (start' c).requires in
-    let loop = c.before.before.before.loop in
-    let a = c.smaller.ensures in
-    let some : 1 ≤ (start' c).args.size = omega (arith, p.2) in
-    let size : loop.f.size ≡ (start' c).args.size =
+    let p = c.requires in
+    let loop = c.loop-next in
+    let a = c.smaller-a.ensures in
+    let some : 1 ≤ c.args.size = omega (arith, p.2) in
+    let size : loop.f.size ≡ c.args.size =
     ap (λ (f : Fit). f.size) loop.invariant ∙ below-size _ _ p.0 _ some p.4 loop.next in
     let inside = longest-inside _ _ p.0 _ some p.4 in (
       p.0,
@@ -60,28 +54,28 @@ better_requires c κs =
       λ k h. rw size (none_longer _ _ p.0 _ some p.4 _ (omega (arith, a, h))),
     )
 
-add_next : tie.Need-overflow-add-next invariant-loop decreases-loop
-add_next c = omega (arith, c.before.smaller.ensures)
+add_next : tie.Need-overflow_add-next invariant-loop decreases-loop
+add_next c = omega (arith, c.smaller-a.ensures)
 
-loop_less : tie.Need-loop-smaller invariant-loop decreases-loop
+loop_less : tie.Need-loop-next-smaller invariant-loop decreases-loop
 loop_less c =
-    let a = c.before.smaller.ensures in
-    omega (arith, a, c.before.before.if1.true, c.before.before.before.before.before.slopes-to.ensures.0)
+    let a = c.smaller-a.ensures in
+    omega (arith, a, c.loop-next-test.true, c.slopes_to-w.ensures.0)
 
-loop_again : tie.Need-loop-preserved invariant-loop decreases-loop
+loop_again : tie.Need-loop-next-preserved invariant-loop decreases-loop
 loop_again c =
-    let p = (start' c.before).pre in
-    let loop = c.before.before.before.before.loop in
+    let p = c.requires in
+    let loop = c.loop-next in
     let small : loop.next ≤ 255 =
-    omega (arith, c.before.before.if1.true, c.before.before.before.before.before.slopes-to.ensures.0) in
-    below-turn _ _ p.0 _ (omega (arith, p.2)) p.4 _ _ loop.next _ c.before.smaller.ensures small loop.invariant c.better.ensures
+    omega (arith, c.loop-next-test.true, c.slopes_to-w.ensures.0) in
+    below-turn _ _ p.0 _ (omega (arith, p.2)) p.4 _ _ loop.next _ c.smaller-a.ensures small loop.invariant c.better-f.ensures
 
 returns : tie.Need-returns invariant-loop decreases-loop
 returns c =
-    let p = (start c).requires in
-    let loop = c.before.before.loop in
-    let range = c.before.before.before.slopes-to.ensures.1 in
-    below_end _ _ p.0 _ (omega (arith, p.2)) p.4 _ _ _ (omega arith) range _ loop.next c.if1.false loop.invariant
+    let p = c.requires in
+    let loop = c.loop-next in
+    let range = c.slopes_to-w.ensures.1 in
+    below_end _ _ p.0 _ (omega (arith, p.2)) p.4 _ _ _ (omega arith) range _ loop.next c.loop-next-test.false loop.invariant
 
 pub best_spec : {M : Type 1} → statement M
 best_spec = tie.close (tie.spec invariant-loop decreases-loop add_slopes_to sub-slopes_to slopes_to_requires add_t9 loop_holds (λ c κs. tt)

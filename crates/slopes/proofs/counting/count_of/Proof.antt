@@ -10,103 +10,74 @@ use Rattle.slopes.proofs.RowBytes.{hits_are}
 use Rattle.slopes.proofs.counting.count_of.Statement.{statement}
 use Rattle.slopes.proofs.counting.count_of.Tie as tie
 
-abbrev invariant-loop : tie.invariant-loop
+abbrev invariant-loop : tie.invariant-loop-k
 invariant-loop rows c tally₀ to k₀ tally k = Storing to (λ j. get_or tally₀ (to + j) 0 + hits rows c j) tally₀ tally k
 
-abbrev decreases-loop : tie.decreases-loop
+abbrev decreases-loop : tie.decreases-loop-k
 decreases-loop rows c tally₀ to k₀ tally k = 32 - k
 
--- where one row after the other was looked at, from the eighth back
-abbrev seventh : tie.After-one-if8 invariant-loop decreases-loop → tie.After-one-if7 invariant-loop decreases-loop
-seventh c = c.before.before
-
-abbrev sixth : tie.After-one-if8 invariant-loop decreases-loop → tie.After-one-if6 invariant-loop decreases-loop
-sixth c = (seventh c).before.before
-
-abbrev fifth : tie.After-one-if8 invariant-loop decreases-loop → tie.After-one-if5 invariant-loop decreases-loop
-fifth c = (sixth c).before.before
-
-abbrev fourth : tie.After-one-if8 invariant-loop decreases-loop → tie.After-one-if4 invariant-loop decreases-loop
-fourth c = (fifth c).before.before
-
-abbrev third : tie.After-one-if8 invariant-loop decreases-loop → tie.After-one-if3 invariant-loop decreases-loop
-third c = (fourth c).before.before
-
-abbrev second : tie.After-one-if8 invariant-loop decreases-loop → tie.After-one-if2 invariant-loop decreases-loop
-second c = (third c).before.before
-
-abbrev first : tie.After-one-if8 invariant-loop decreases-loop → tie.After-one-if invariant-loop decreases-loop
-first c = (second c).before.before
-
-abbrev in_loop : tie.After-one-if8 invariant-loop decreases-loop → tie.In-loop invariant-loop decreases-loop
-in_loop c = (first c).before.before
-
-abbrev at_loop : tie.After-one-if8 invariant-loop decreases-loop → tie.At-loop invariant-loop decreases-loop
-at_loop c = (in_loop c).before
-
 -- the slope's count so far, and with the eight rows
-fits : (c : tie.After-one-if8 invariant-loop decreases-loop)
-    → let a = (at_loop c).before.args in
-    let k = (at_loop c).loop.k in
-    (get_or (at_loop c).loop.tally (a.to + k) 0 ≡ get_or a.tally.now (a.to + k) 0)
-    × ((first c).one-if.result + (second c).one-if2.result + ((third c).one-if3.result + (fourth c).one-if4.result)
-    + ((fifth c).one-if5.result + (sixth c).one-if6.result + ((seventh c).one-if7.result + c.one-if8.result))
+fits : (c : tie.After-one_if-in-loop-k-7 invariant-loop decreases-loop)
+    → let a = c.args in
+    let k = c.loop-k.k in
+    (get_or c.loop-k.tally (a.to + k) 0 ≡ get_or a.tally.now (a.to + k) 0)
+    × (c.one_if.result + c.one_if-in-loop-k.result + (c.one_if-in-loop-k-2.result + c.one_if-in-loop-k-3.result)
+    + (c.one_if-in-loop-k-4.result + c.one_if-in-loop-k-5.result + (c.one_if-in-loop-k-6.result + c.one_if-in-loop-k-7.result))
     ≡ hits a.rows.now a.c k)
     × (get_or a.tally.now (a.to + k) 0 + hits a.rows.now a.c k ≤ 255)
 fits c = (
-  (at_loop c).loop.invariant.behind _ (omega arith),
-  hits_are _ _ _ _ _ _ _ _ _ _ _ (first c).one-if.ensures (second c).one-if2.ensures (third c).one-if3.ensures
-      (fourth c).one-if4.ensures (fifth c).one-if5.ensures (sixth c).one-if6.ensures (seventh c).one-if7.ensures c.one-if8.ensures,
-  (at_loop c).before.requires.2 (at_loop c).loop.k (in_loop c).loop-test.true,
+  c.loop-k.invariant.behind _ (omega arith),
+  hits_are _ _ _ _ _ _ _ _ _ _ _ c.one_if.ensures c.one_if-in-loop-k.ensures c.one_if-in-loop-k-2.ensures
+      c.one_if-in-loop-k-3.ensures c.one_if-in-loop-k-4.ensures c.one_if-in-loop-k-5.ensures c.one_if-in-loop-k-6.ensures c.one_if-in-loop-k-7.ensures,
+  c.requires.2 c.loop-k.k c.loop-k-test.true,
 )
 
-loop_holds : tie.Need-loop-init invariant-loop decreases-loop
+loop_holds : tie.Need-loop-k-init invariant-loop decreases-loop
 loop_holds c = storing_start _ _ _
 
-add_x : tie.Need-overflow-add-x invariant-loop decreases-loop
-add_x c = omega (arith, two_small _ _ _ _ c.before.before.one-if.ensures c.one-if2.ensures)
+add_x : tie.Need-overflow_add-x invariant-loop decreases-loop
+add_x c = omega (arith, two_small _ _ _ _ c.one_if.ensures c.one_if-in-loop-k.ensures)
 
-add_y : tie.Need-overflow-add-y invariant-loop decreases-loop
-add_y c = omega (arith, two_small _ _ _ _ c.before.before.one-if3.ensures c.one-if4.ensures)
+add_y : tie.Need-overflow_add-y invariant-loop decreases-loop
+add_y c = omega (arith, two_small _ _ _ _ c.one_if-in-loop-k-2.ensures c.one_if-in-loop-k-3.ensures)
 
-add_u : tie.Need-overflow-add-u invariant-loop decreases-loop
-add_u c = omega (arith, two_small _ _ _ _ c.before.before.one-if5.ensures c.one-if6.ensures)
+add_u : tie.Need-overflow_add-u invariant-loop decreases-loop
+add_u c = omega (arith, two_small _ _ _ _ c.one_if-in-loop-k-4.ensures c.one_if-in-loop-k-5.ensures)
 
-add_v : tie.Need-overflow-add-v invariant-loop decreases-loop
-add_v c = omega (arith, two_small _ _ _ _ c.before.before.one-if7.ensures c.one-if8.ensures)
+add_v : tie.Need-overflow_add-v invariant-loop decreases-loop
+add_v c = omega (arith, two_small _ _ _ _ c.one_if-in-loop-k-6.ensures c.one_if-in-loop-k-7.ensures)
 
-add_tally : tie.Need-overflow-add-tally invariant-loop decreases-loop
-add_tally c = omega (arith, in_loop c)
+add_tally : tie.Need-overflow_add-tally invariant-loop decreases-loop
+add_tally c = omega (arith, c.requires.1, c.loop-k-test.true)
 
-element_copy-out-tally : tie.Need-element-copy-out-tally invariant-loop decreases-loop
-element_copy-out-tally c = omega (arith, in_loop c)
+element_copy-out-tally : tie.Need-bounds-tally-to invariant-loop decreases-loop
+element_copy-out-tally c = omega (arith, c.loop-k.invariant.long, c.requires.0, c.requires.1, c.loop-k-test.true)
 
-add_tally_2 : tie.Need-overflow-add-tally-2 invariant-loop decreases-loop
-add_tally_2 c = omega (arith, fits c.before)
+add_tally_2 : tie.Need-overflow_add-tally-in-loop-k invariant-loop decreases-loop
+add_tally_2 c = omega (arith, fits c.before.before)
 
-add_tally_3 : tie.Need-overflow-add-tally-3 invariant-loop decreases-loop
-add_tally_3 c = omega (arith, fits c.before)
+add_tally_3 : tie.Need-overflow_add-tally-in-loop-k-2 invariant-loop decreases-loop
+add_tally_3 c = omega (arith, fits c.before.before)
 
-add_tally_4 : tie.Need-overflow-add-tally-4 invariant-loop decreases-loop
-add_tally_4 c = omega (arith, fits c.before)
+add_tally_4 : tie.Need-overflow_add-tally-in-loop-k-3 invariant-loop decreases-loop
+add_tally_4 c = omega (arith, fits c.before.before)
 
-add_tally_5 : tie.Need-overflow-add-tally-5 invariant-loop decreases-loop
-add_tally_5 c = omega (arith, fits c.before)
+add_tally_5 : tie.Need-overflow_add-tally-in-loop-k-4 invariant-loop decreases-loop
+add_tally_5 c = omega (arith, fits c.before.before)
 
-add_tally_6 : tie.Need-overflow-add-tally-6 invariant-loop decreases-loop
-add_tally_6 c = omega (arith, in_loop c.before)
+add_tally_6 : tie.Need-overflow_add-tally-in-loop-k-5 invariant-loop decreases-loop
+add_tally_6 c = omega (arith, c.loop-k.invariant.long, c.requires.0, c.requires.1, c.loop-k-test.true)
 
-element_write-tally : tie.Need-element-write-tally invariant-loop decreases-loop
-element_write-tally c = omega (arith, in_loop c.before)
+element_write-tally : tie.Need-bounds-tally-to-in-loop-k invariant-loop decreases-loop
+element_write-tally c = omega (arith, c.loop-k.invariant.long, c.requires.0, c.requires.1, c.loop-k-test.true)
 
-loop_again : tie.Need-loop-preserved invariant-loop decreases-loop
+loop_again : tie.Need-loop-k-preserved invariant-loop decreases-loop
 loop_again c =
-    let turn = in_loop c.before in
-    let counted = fits c.before in
-    storing_turn _ _ _ _ _ _ _ (omega (arith, turn)) refl turn.loop-test.taken (omega arith) turn.before.loop.inv
+    let counted = fits c.before.before in
+    storing_turn _ _ _ _ _ _ _ (omega (arith, c)) refl c.loop-k-test.true (omega arith) c.loop-k.invariant
 
 returns : tie.Need-returns invariant-loop decreases-loop
-returns c = storing_end _ _ _ _ _ c.loop-test.false c.before.loop.invariant
+returns c = storing_end _ _ _ _ _ c.loop-k-test.false c.loop-k.invariant
 
 pub count_of_spec : {M : Type 1} → statement M
 count_of_spec = tie.close (tie.spec invariant-loop decreases-loop loop_holds (λ c. omega arith) (λ c κs. tt) (λ c. omega arith) (λ c. omega arith)

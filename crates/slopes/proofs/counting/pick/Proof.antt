@@ -3,11 +3,11 @@ use Rattle.slopes.proofs.HowMany.{picks_first, picks_second}
 use Rattle.slopes.proofs.counting.pick.Statement.{statement}
 use Rattle.slopes.proofs.counting.pick.Tie as tie
 
-returns : tie.Need-returns
-returns c = picks_first _ _ _ c.if1.true
+returns : tie.Need-returns-then-t
+returns c = picks_first _ _ _ c.if-t.true
 
-returns_2 : tie.Need-returns-2
-returns_2 c = picks_second _ _ _ c.if1.false
+returns_2 : tie.Need-returns
+returns_2 c = picks_second _ _ _ c.if-t.false
 
 pub pick_spec : {M : Type 1} → statement M
 pick_spec = tie.close (tie.spec returns returns_2)

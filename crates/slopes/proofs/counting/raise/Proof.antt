@@ -6,34 +6,31 @@ use Rattle.slopes.proofs.Stores.{Storing, storing_start, storing_turn, storing_e
 use Rattle.slopes.proofs.counting.raise.Statement.{statement}
 use Rattle.slopes.proofs.counting.raise.Tie as tie
 
-abbrev invariant-loop : tie.invariant-loop
+abbrev invariant-loop : tie.invariant-loop-k
 invariant-loop most₀ choice₀ tally to widths c k₀ most choice k =
     Storing 0 (raised_most to c tally widths most₀) most₀ most k × Storing 0 (raised_choice to c tally widths most₀ choice₀) choice₀ choice k
 
-abbrev decreases-loop : tie.decreases-loop
+abbrev decreases-loop : tie.decreases-loop-k
 decreases-loop most₀ choice₀ tally to widths c k₀ most choice k = 32 - k
 
-abbrev in_loop : tie.After-pick2 invariant-loop decreases-loop → tie.In-loop invariant-loop decreases-loop
-in_loop c = c.before.before.before.before.before.before.before.before
-
-loop_holds : tie.Need-loop-init invariant-loop decreases-loop
+loop_holds : tie.Need-loop-k-init invariant-loop decreases-loop
 loop_holds c = (storing_start _ _ _, storing_start _ _ _)
 
-loop_again : tie.Need-loop-preserved invariant-loop decreases-loop
+loop_again : tie.Need-loop-k-preserved invariant-loop decreases-loop
 loop_again c =
-    let most = (in_loop c).before.loop.invariant.0 in
-    let choice = (in_loop c).before.loop.invariant.1 in
-    let same = most.behind (in_loop c).before.loop.k (omega arith) in (
-      storing_turn _ _ _ _ _ _ _ (omega arith) (omega arith) (in_loop c).loop-test.true
-          (rw same at c.before.before.pick.ensures) most,
-      storing_turn _ _ _ _ _ _ _ (omega arith) (omega arith) (in_loop c).loop-test.true
-          (rw (same, choice.behind (in_loop c).before.loop.k (omega arith)) at c.pick2.ensures) choice,
+    let most = c.loop-k.invariant.0 in
+    let choice = c.loop-k.invariant.1 in
+    let same = most.behind c.loop-k.k (omega arith) in (
+      storing_turn _ _ _ _ _ _ _ (omega arith) (omega arith) c.loop-k-test.true
+          (rw same at c.pick.ensures) most,
+      storing_turn _ _ _ _ _ _ _ (omega arith) (omega arith) c.loop-k-test.true
+          (rw (same, choice.behind c.loop-k.k (omega arith)) at c.pick-in-loop-k.ensures) choice,
     )
 
 returns : tie.Need-returns invariant-loop decreases-loop
 returns c =
-    let inv = c.before.loop.invariant in
-    (storing_end _ _ _ _ _ c.loop-test.false inv.0, storing_end _ _ _ _ _ c.loop-test.false inv.1)
+    let inv = c.loop-k.invariant in
+    (storing_end _ _ _ _ _ c.loop-k-test.false inv.0, storing_end _ _ _ _ _ c.loop-k-test.false inv.1)
 
 pub raise_spec : {M : Type 1} → statement M
 raise_spec = tie.close (tie.spec invariant-loop decreases-loop loop_holds (λ c. omega arith) (λ c. omega arith) (λ c. omega arith)

@@ -5,46 +5,42 @@ use Rattle.slopes.proofs.SlopeRange.{first_small, apart, slope_first, slope_last
 use Rattle.slopes.proofs.reach.slopes_to.Statement.{statement}
 use Rattle.slopes.proofs.reach.slopes_to.Tie as tie
 
-sub_d : tie.Need-sub-d
-sub_d c = let pre = c.before.before.before.pre in omega (arith, apart _ _ pre.0 _ pre.1 pre.2)
+sub_d : tie.Need-overflow_sub-d
+sub_d c = let pre = c.requires in omega (arith, apart _ _ pre.0 _ pre.1 pre.2)
 
-div_smaller : tie.Need-div-smaller
+div_smaller : tie.Need-nonzero_div-most
 div_smaller c =
-    let pre = c.before.before.before.before.before.before.before.pre in
+    let pre = c.requires in
     omega (arith, apart _ _ pre.0 _ pre.1 pre.2)
 
-returns : tie.Need-returns
+returns : tie.Need-returns-then-least-from
 returns c =
-    let down = c.before.before in
-    let pre = down.before.before.before.before.before.before.before.pre in (
-      omega (arith, c.before.smaller.ensures),
+    let pre = c.requires in (
+      omega (arith, c.smaller-last.ensures),
       λ a h k. (
         omega arith,
         slope_last _ _ pre.0 _ pre.1 pre.2 a h k _ _ _
-            down.before.highest2.ensures down.lowest2.ensures c.before.smaller.ensures,
+            c.highest-most.ensures c.lowest-down.ensures c.smaller-last.ensures,
       ),
     )
 
-div_t18 : tie.Need-div-t18
+div_t18 : tie.Need-nonzero_div-result
 div_t18 c =
-    let pre = c.before.before.before.before.before.before.before.before.before.pre in
+    let pre = c.requires in
     omega (arith, apart _ _ pre.0 _ pre.1 pre.2)
 
-add_t17 : tie.Need-add-t17
+add_t17 : tie.Need-overflow_add-result
 add_t17 c =
-    let least = c.before.before.before.before.before in
-    let pre = least.before.before.before.before.pre in
-    record { fits = first_small _ _ _ (omega (arith, pre.0.size, pre.0.end, pre.2, least.lowest.ensures)) }
+    let pre = c.requires in
+    record { fits = first_small _ _ _ (omega (arith, pre.0.size, pre.0.end, pre.2, c.lowest-least.ensures)) }
 
-returns_2 : tie.Need-returns-2
+returns_2 : tie.Need-returns
 returns_2 c =
-    let down = c.before.before in
-    let from = down.before.before in
-    let pre = from.before.before.before.before.before.pre in (
-      omega (arith, c.before.smaller.ensures),
+    let pre = c.requires in (
+      omega (arith, c.smaller-last.ensures),
       λ a h k. (
-        slope_first _ _ pre.0 _ pre.1 pre.2 a h k _ _ from.before.lowest.ensures from.highest.ensures (omega (arith, c.if1.left)),
-        slope_last _ _ pre.0 _ pre.1 pre.2 a h k _ _ _ down.before.highest2.ensures down.lowest2.ensures c.before.smaller.ensures,
+        slope_first _ _ pre.0 _ pre.1 pre.2 a h k _ _ c.lowest-least.ensures c.highest-from.ensures (omega (arith, c.if-least-from.false)),
+        slope_last _ _ pre.0 _ pre.1 pre.2 a h k _ _ _ c.highest-most.ensures c.lowest-down.ensures c.smaller-last.ensures,
       ),
     )
 

@@ -3,56 +3,51 @@ use mathlib.Core.Path.{◌≡◌}
 use Prim.Native.Nat.{◌-◌, ◌≤◌, ◌<◌}
 use native.Mathlib.Omega.{arith}
 use borrow.Author.Rules.{rules}
-use borrow.Author.Tests.{not-true, not-false}
 use Rattle.slopes.proofs.Following.{Followed, line_one, followed_small, followed_stops, line_none, followed_on}
 use Rattle.slopes.proofs.reach.within_line.Statement.{statement}
 use Rattle.slopes.proofs.reach.within_line.Tie as tie
 
-abbrev invariant-loop : tie.invariant-loop
+abbrev invariant-loop : tie.invariant-loop-q
 invariant-loop written s a from e low₀ high₀ q₀ low high q = (q ≤ e) × Followed s written a q low high
 
-abbrev decreases-loop : tie.decreases-loop
+abbrev decreases-loop : tie.decreases-loop-q
 decreases-loop written s a from e low₀ high₀ q₀ low high q = e - q
 
-loop_holds : tie.Need-loop-init invariant-loop decreases-loop
-loop_holds c = let p = c.before.requires in (p.3, record { past = p.2; to = omega (arith, p.3, p.4); suits = p.5; one = p.6 })
+loop_holds : tie.Need-loop-q-init invariant-loop decreases-loop
+loop_holds c = let p = c.requires in (p.3, record { past = p.2; to = omega (arith, p.3, p.4); suits = p.5; one = p.6 })
 
-narrow_by_requires : tie.Need-narrow-by-requires invariant-loop decreases-loop
+narrow_by_requires : tie.Need-narrow_by-requires invariant-loop decreases-loop
 narrow_by_requires c κs =
-    let p = c.before.before.before.before.before.requires in
-    let n = followed_small _ _ p.0 _ p.1 _ _ _ c.before.before.before.loop.invariant.1 in
+    let p = c.requires in
+    let n = followed_small _ _ p.0 _ p.1 _ _ _ c.loop-q.invariant.1 in
     (p.0, omega (arith, p.4), p.1, n.0, n.1)
 
-returns : tie.Need-returns invariant-loop decreases-loop
+returns : tie.Need-returns-then-not-some_left invariant-loop decreases-loop
 returns c =
-    let narrowed = c.before.before.before.before in
-    let low = narrowed.narrow-by.new.1.1.1.1.0 in
-    let high = narrowed.narrow-by.new.1.1.1.1.1.0 in
-    let turn = narrowed.before.before.before.before in
-    let p = turn.before.before.requires in
-    let here = turn.loop.invariant.1 in
-    let inside : turn.loop.q < turn.before.before.args.s.end = omega (arith, p.4) in
+    let low = c.narrow_by.new.low in
+    let high = c.narrow_by.new.high in
+    let p = c.requires in
+    let here = c.loop-q.invariant.1 in
+    let inside : c.loop-q.q < c.args.s.end = omega (arith, p.4) in
     followed_stops _ _ p.0 _ p.1 _ _ _ here inside
-    (line_none _ _ p.0 _ p.1 _ _ _ here _ (line_one _ _) inside low high narrowed.narrow-by.ensures _ c.before.some_left.ensures
-    (not-true _ c.if1.true))
+    (line_none _ _ p.0 _ p.1 _ _ _ here _ (line_one _ _) inside low high c.narrow_by.ensures _ c.some_left.ensures
+    c.if-not-some_left.true)
 
-loop_again : tie.Need-loop-preserved invariant-loop decreases-loop
+loop_again : tie.Need-loop-q-preserved invariant-loop decreases-loop
 loop_again c =
-    let narrowed = c.before.before.before.before in
-    let low = narrowed.narrow-by.new.1.1.1.1.0 in
-    let high = narrowed.narrow-by.new.1.1.1.1.1.0 in
-    let turn = narrowed.before.before.before.before in
-    let p = turn.before.before.requires in (
+    let low = c.narrow_by.new.low in
+    let high = c.narrow_by.new.high in
+    let p = c.requires in (
       omega arith,
-      followed_on _ _ p.0 _ p.1 _ _ _ turn.loop.invariant.1 _ (line_one _ _) (omega (arith, p.4)) low high
-          narrowed.narrow-by.ensures _ c.before.some_left.ensures (not-false _ c.if1.false),
+      followed_on _ _ p.0 _ p.1 _ _ _ c.loop-q.invariant.1 _ (line_one _ _) (omega (arith, p.4)) low high
+          c.narrow_by.ensures _ c.some_left.ensures c.if-not-some_left.false,
     )
 
-returns_2 : tie.Need-returns-2 invariant-loop decreases-loop
+returns_2 : tie.Need-returns invariant-loop decreases-loop
 returns_2 c =
-    let p = c.before.before.before.requires in
-    let end : c.before.before.before.args.e ≡ c.before.loop.q = omega arith in
-    followed_stops _ _ p.0 _ p.1 _ _ _ c.before.loop.invariant.1 (omega (arith, p.4)) (rw end at p.7)
+    let p = c.requires in
+    let end : c.args.e ≡ c.loop-q.q = omega arith in
+    followed_stops _ _ p.0 _ p.1 _ _ _ c.loop-q.invariant.1 (omega (arith, p.4)) (rw end at p.7)
 
 pub within_line_spec : {M : Type 1} → statement M
 within_line_spec = tie.close (tie.spec invariant-loop decreases-loop loop_holds narrow_by_requires (λ c κs. search rules) returns (λ c. omega arith)

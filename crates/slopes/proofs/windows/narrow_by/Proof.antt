@@ -9,13 +9,12 @@ use Rattle.slopes.proofs.windows.narrow_by.Tie as tie
 
 returns : tie.Need-returns
 returns c =
-    let down = c.before.before.before.before.lowest.ensures in
-    let up = c.before.before.before.highest.ensures in
-    let start = c.before.before.before.before.before.before.before in
+    let down = c.lowest.ensures in
+    let up = c.highest.ensures in
     λ k b.
     let n = c.narrow.ensures k b in (
-      n.0 ∙ ap (λ (x : ℕ). max (get_or start.args.low.now k 0) x) (suit_least _ _ _ _ _ down),
-      n.1 ∙ ap (λ (x : ℕ). min (get_or start.args.high.now k 0) x) (suit_most _ _ _ _ _ _ up start.requires.0.last),
+      n.0 ∙ ap (λ (x : ℕ). max (get_or c.args.low.now k 0) x) (suit_least _ _ _ _ _ down),
+      n.1 ∙ ap (λ (x : ℕ). min (get_or c.args.high.now k 0) x) (suit_most _ _ _ _ _ _ up c.requires.0.last),
     )
 
 pub narrow_by_spec : {M : Type 1} → statement M

@@ -8,16 +8,16 @@ use Rattle.slots.proofs.OwnerPasses.{Passing, pass_start, pass_turn, pass_end}
 use Rattle.slots.proofs.owners.clear.Statement.{statement}
 use Rattle.slots.proofs.owners.clear.Tie as tie
 
-abbrev invariant-loop : tie.invariant-loop
+abbrev invariant-loop : tie.invariant-loop-o
 invariant-loop b₀ o₀ b o = Passing (λ k w. 0) b₀ b 0 offsets o
 
-abbrev decreases-loop : tie.decreases-loop
+abbrev decreases-loop : tie.decreases-loop-o
 decreases-loop b₀ o₀ b o = offsets - o
 
-loop_again : tie.Need-loop-preserved invariant-loop decreases-loop
+loop_again : tie.Need-loop-o-preserved invariant-loop decreases-loop
 loop_again c =
-    let so = c.before.before.before.before.before.loop in
-    pass_turn _ _ _ _ _ _ so.invariant _ _ _ c.before.before.before.before.loop-test.true refl refl c.before.before.set-owner.ensures
+    let so = c.loop-o in
+    pass_turn _ _ _ _ _ _ so.invariant _ _ _ c.loop-o-test.true refl refl c.set_owner.ensures
 
 pub clear_spec : {M : Type 1} → statement M
 clear_spec = tie.close (tie.spec invariant-loop decreases-loop (λ c. search (pass_start, rules)) (λ c κs. search rules) (λ c. omega arith)

@@ -8,10 +8,10 @@ use Rattle.slots.specs.Owners.{handed_on}
 use Rattle.slots.proofs.owners.hand_on.Statement.{statement}
 use Rattle.slots.proofs.owners.hand_on.Tie as tie
 
-abbrev invariant-loop : tie.invariant-loop
+abbrev invariant-loop : tie.invariant-loop-o
 invariant-loop b₀ start end taken to o₀ b o = Passing (λ k w. handed_on start (masked taken k) to w) b₀ b start end o
 
-abbrev decreases-loop : tie.decreases-loop
+abbrev decreases-loop : tie.decreases-loop-o
 decreases-loop b₀ start end taken to o₀ b o = end - o
 
 pub hand_on_spec : {M : Type 1} → statement M

@@ -4,31 +4,26 @@ use mathlib.Core.List.{[]}
 use native.Mathlib.Omega.{arith}
 use Rattle.slots.proofs.Leaving.{exact-left, unowned-left}
 use borrow.Author.Rules.{rules}
-use borrow.Author.Tests.{not-true, not-false}
 use Rattle.slots.proofs.owners.left_of.Statement.{statement}
 use Rattle.slots.proofs.owners.left_of.Tie as tie
 
-shrink_accurate_requires : tie.Need-shrink-accurate-requires
+shrink_accurate_requires : tie.Need-shrink_accurate-requires
 shrink_accurate_requires c κs =
-    let start = c.before.before.before.before in
-    (start.requires.2, start.requires.1, sym (c.before.is-approximate.ensures []) ∙ not-true c.before.is-approximate.result c.if1.true)
+    (c.requires.2, c.requires.1, sym (c.is_approximate.ensures []) ∙ c.if-not-is_approximate.true)
 
-returns : tie.Need-returns
+returns : tie.Need-returns-then-not-is_approximate
 returns c =
-    let start = c.before.before.before.before.before in
-    exact-left _ start.args.taken.now start.args.r _ start.requires.0 (sym (c.before.before.is-approximate.ensures []) ∙ not-true c.before.before.is-approximate.result c.before.if1.true) c.shrink-accurate.ensures
+    exact-left _ c.args.taken.now c.args.r _ c.requires.0 (sym (c.is_approximate.ensures []) ∙ c.if-not-is_approximate.true) c.shrink_accurate.ensures
 
-returns_2 : tie.Need-returns-2
+returns_2 : tie.Need-returns-then-flag-eq0
 returns_2 c =
-    let start = c.before.before.before.before.before.before.before in
-    let slope = sym (c.before.before.before.before.is-approximate.ensures []) ∙ not-false c.before.before.before.before.is-approximate.result c.before.before.before.if1.false in
-    unowned-left start.args.r slope _ start.args.taken.now start.requires.0 start.requires.1 start.requires.3 (sym c.before.flag.ensures ∙ c.if2.true)
+    let slope = sym (c.is_approximate.ensures []) ∙ c.if-not-is_approximate.false in
+    unowned-left c.args.r slope _ c.args.taken.now c.requires.0 c.requires.1 c.requires.3 (sym c.flag.ensures ∙ c.if-flag-eq0.true)
 
-left_of_owner_requires : tie.Need-left-of-owner-requires
+left_of_owner_requires : tie.Need-left_of_owner-requires
 left_of_owner_requires c κs =
-    let start = c.before.before.before.before.before.before.before.before in
-    let slope = sym (c.before.before.before.before.before.is-approximate.ensures []) ∙ not-false c.before.before.before.before.before.is-approximate.result c.before.before.before.before.if1.false in
-    (start.requires.0, omega arith, start.requires.1, start.requires.2, slope, start.requires.3)
+    let slope = sym (c.is_approximate.ensures []) ∙ c.if-not-is_approximate.false in
+    (c.requires.0, omega arith, c.requires.1, c.requires.2, slope, c.requires.3)
 
 pub left_of_spec : {M : Type 1} → statement M
 left_of_spec = tie.close (tie.spec (λ c κs. search rules) shrink_accurate_requires returns (λ c κs. search rules)

@@ -9,29 +9,25 @@ use borrow.Author.Rules.{rules}
 use Rattle.slots.proofs.owners.left_of_owner.Statement.{statement}
 use Rattle.slots.proofs.owners.left_of_owner.Tie as tie
 
-returns : tie.Need-returns
+returns : tie.Need-returns-then-e-f
 unfolding left_of start_left
 returns c =
-    let start = c.before.before.before.before.before.before.before.before.before.before in
-    let none_stays = c.before.before.before.before.if1.true in
-    owners-left start.args.r start.requires.4 _ _ start.args.taken.now _ start.requires.5 c.before.before.hand_on.ensures
-    (nothing_left start.args.r start.requires.4 _ start.args.taken.now start.requires.2 start.requires.5 _ c.before.before.before.before.before.first.ensures none_stays)
+    let none_stays = c.if-e-f.true in
+    owners-left c.args.r c.requires.4 _ _ c.args.taken.now _ c.requires.5 c.hand_on.ensures
+    (nothing_left c.args.r c.requires.4 _ c.args.taken.now c.requires.2 c.requires.5 _ c.first-f.ensures none_stays)
 
-last_requires : tie.Need-last-requires
+last_requires : tie.Need-last-g-requires
 last_requires c κs =
-    let start = c.before.before.before.before.before.before.before in
-    let f = c.before.before.first.ensures in
-    (start.requires.0.0, start.requires.1, omega arith, c.before.if1.false, omega arith, start.requires.3, f.1 c.before.if1.false)
+    let f = c.first-f.ensures in
+    (c.requires.0.0, c.requires.1, omega arith, c.if-e-f.false, omega arith, c.requires.3, f.1 c.if-e-f.false)
 
-returns_2 : tie.Need-returns-2
+returns_2 : tie.Need-returns
 unfolding left_of start_left
 returns_2 c =
-    let start = c.before.before.before.before.before.before.before.before.before.before.before.before.before in
-    let scanned = c.before.before.before.before.before in
-    let f = scanned.before.before.before.first.ensures in
-    owners-left start.args.r start.requires.4 _ _ start.args.taken.now _ start.requires.5 c.before.before.before.hand-on2.ensures
-    (something_left start.args.r start.requires.4 _ start.args.taken.now start.requires.2 start.requires.5 _ _ _ f scanned.before.before.if1.false scanned.last.ensures
-    (to_z-of_z {w = w32} (record { sfits = c.struct_told.given.1.1.1.0.1 })))
+    let f = c.first-f.ensures in
+    owners-left c.args.r c.requires.4 _ _ c.args.taken.now _ c.requires.5 c.hand_on-2.ensures
+    (something_left c.args.r c.requires.4 _ c.args.taken.now c.requires.2 c.requires.5 _ _ _ f c.if-e-f.false c.last-g.ensures
+    (to_z-of_z {w = w32} (record { sfits = c.struct_told-1.given.1.1.1.0.1 })))
 
 pub left_of_owner_spec : {M : Type 1} → statement M
 left_of_owner_spec = tie.close (tie.spec (λ c. search rules) (λ c κs. search rules) (λ c. search rules) (λ c κs. search rules)

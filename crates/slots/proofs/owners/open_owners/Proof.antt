@@ -9,16 +9,13 @@ use Rattle.slots.proofs.owners.open_owners.Tie as tie
 
 clear_requires : tie.Need-clear-requires
 clear_requires c κs =
-    let start = c.before.before.before.before.before.before.before.before.before in
-    let set = flag-stored _ _ _ start.requires (omega arith) c.before.before.before.put-u16.ensures in
+    let set = flag-stored _ _ _ c.requires (omega arith) c.put_u16.ensures in
     (set.0, omega (arith, set.2))
 
-returns_2 : tie.Need-returns-2
+returns_2 : tie.Need-returns
 returns_2 c =
-    let start = c.before.before.before.before.before.before.before.before.before.before.before.before in
-    let tested = c.before.before.before.before.before.before.before.before in
-    let set = flag-stored _ _ _ start.requires (omega arith) c.before.before.before.before.before.before.put-u16.ensures in
-    opened _ _ _ (sym tested.before.flag.ensures ∙ tested.if1.false) set c.before.before.clear.ensures
+    let set = flag-stored _ _ _ c.requires (omega arith) c.put_u16.ensures in
+    opened _ _ _ (sym c.flag.ensures ∙ c.if-flag-ne0.false) set c.clear.ensures
 
 pub open_owners_spec : {M : Type 1} → statement M
 open_owners_spec = tie.close (tie.spec (λ c κs. search rules) (λ c. search rules) (λ c. search rules)

@@ -8,9 +8,8 @@ use Rattle.slots.proofs.owners.own.Tie as tie
 
 returns : tie.Need-returns
 returns c =
-    let start = c.before.before.before.before.before.before.before.before.before.before.before in
-    given-shows _ _ _ start.args.mask.now _ _ c.before.before.before.before.before.before.before.open-owners.ensures.0 c.before.before.own-from.ensures
-    (λ o h e. let range = start.requires.3 o h e in (range.0, omega (arith, range.1)))
+    given-shows _ _ _ c.args.mask.now _ _ c.open_owners.ensures.0 c.own_from.ensures
+    (λ o h e. let range = c.requires.3 o h e in (range.0, omega (arith, range.1)))
 
 pub own_spec : {M : Type 1} → statement M
 own_spec = tie.close (tie.spec (λ c κs. search rules) (λ c. search rules) (λ c. search rules) (λ c κs. search (shown-room, rules))

@@ -8,10 +8,10 @@ use Rattle.slots.specs.Owners.{taken_by}
 use Rattle.slots.proofs.owners.own_from.Statement.{statement}
 use Rattle.slots.proofs.owners.own_from.Tie as tie
 
-abbrev invariant-loop : tie.invariant-loop
+abbrev invariant-loop : tie.invariant-loop-o
 invariant-loop b₀ start end mask o₀ b o = Passing (λ k w. taken_by start (masked mask k) w) b₀ b start end o
 
-abbrev decreases-loop : tie.decreases-loop
+abbrev decreases-loop : tie.decreases-loop-o
 decreases-loop b₀ start end mask o₀ b o = end - o
 
 pub own_from_spec : {M : Type 1} → statement M

@@ -10,7 +10,7 @@ use Rattle.slots.proofs.owners.owner.Tie as tie
 
 returns : tie.Need-returns
 unfolding entry_of
-returns c = (c.get-u16.ensures.0 ∙ sym (owner-entry _ _ (λ z. omega (arith, c.before.before.requires.2))), c.get-u16.ensures.1)
+returns c = (c.get_u16.ensures.0 ∙ sym (owner-entry _ _ (λ z. omega (arith, c.requires.2))), c.get_u16.ensures.1)
 
 pub owner_spec : {M : Type 1} → statement M
 owner_spec = tie.close (tie.spec (λ c. search rules) (λ c. search rules) (λ c κs. unfold group_length in search rules) returns)

@@ -7,14 +7,14 @@ use borrow.Author.Rules.{rules}
 use Rattle.slots.proofs.owners.stays.Statement.{statement}
 use Rattle.slots.proofs.owners.stays.Tie as tie
 
-returns : tie.Need-returns
-returns c = sym (left_other _ _ _ (λ e. c.if1.true (c.before.owner.ensures.0 ∙ e ∙ sym (add-one _))))
+returns : tie.Need-returns-then-owner-start
+returns c = sym (left_other _ _ _ (λ e. c.if-owner-start.true (c.owner.ensures.0 ∙ e ∙ sym (add-one _))))
 
-returns_2 : tie.Need-returns-2
-returns_2 c = sym (left-named _ _ _ (sym c.before.before.before.owner.ensures.0 ∙ c.before.before.if1.false ∙ add-one _) ∙ rw (ne_eqb _ _ c.if2.true))
+returns_2 : tie.Need-returns-then-taken-o-ne0
+returns_2 c = sym (left-named _ _ _ (sym c.owner.ensures.0 ∙ c.if-owner-start.false ∙ add-one _) ∙ rw (ne_eqb _ _ c.if-taken-o-ne0.true))
 
-returns_3 : tie.Need-returns-3
-returns_3 c = sym (left-named _ _ _ (sym c.before.before.before.owner.ensures.0 ∙ c.before.before.if1.false ∙ add-one _) ∙ rw (eq-eqb _ _ c.if2.false))
+returns_3 : tie.Need-returns
+returns_3 c = sym (left-named _ _ _ (sym c.owner.ensures.0 ∙ c.if-owner-start.false ∙ add-one _) ∙ rw (eq-eqb _ _ c.if-taken-o-ne0.false))
 
 pub stays_spec : {M : Type 1} → statement M
 stays_spec = tie.close (tie.spec (λ c κs. search rules) (λ c. search rules) returns (λ c. search rules) returns_2 returns_3)
