@@ -25,7 +25,7 @@ as_read l = record { state = read_state l.state; spare = l.spare; plan = l.plan;
 abbrev pub device_slices : List ℕ → List ℕ → Slices
 device_slices state spare = record { state = state; spare = spare; plan = []; erased = []; out = [] }
 
--- and of a listing_slices
+-- and of a listing
 abbrev pub listing_slices : List ℕ → List ℕ → List ℕ → Slices
 listing_slices state spare out = record { state = state; spare = spare; plan = []; erased = []; out = out }
 

@@ -3,6 +3,4 @@ pub mod RunsEnd
 pub mod Rooms
 pub mod Passing
 pub mod Learned
-pub mod Walking
-pub mod Lending
 pub mod Written

@@ -9,48 +9,45 @@ use Rattle.writing.proofs.RunsEnd.{end_on, end_here}
 use Rattle.writing.proofs.end_of.Statement.{statement}
 use Rattle.writing.proofs.end_of.Tie as tie
 
-abbrev invariant-loop : tie.invariant-loop
+abbrev invariant-loop : tie.invariant-loop-run
 invariant-loop written taken n k end run₀ page₀ run page =
     (page ≡ first_place taken run) × (run ≤ n) × (end_from written taken k run (n - run) ≡ runs_end written taken n run₀)
 
-abbrev decreases-loop : tie.decreases-loop
+abbrev decreases-loop : tie.decreases-loop-run
 decreases-loop written taken n k end run₀ page₀ run page = n - run
 
-abbrev start : tie.In-loop invariant-loop decreases-loop → tie.Start invariant-loop decreases-loop
-start c = c.before.before.before.before
+returns : tie.Need-returns-then-p-end invariant-loop decreases-loop
+returns c = c.requires.2.end c.if-p-end.true
 
-returns : tie.Need-returns invariant-loop decreases-loop
-returns c = c.before.before.requires.2.end c.if1.true
-
-loop_holds : tie.Need-loop-init invariant-loop decreases-loop
+loop_holds : tie.Need-loop-run-init invariant-loop decreases-loop
 unfolding runs_end
-loop_holds c = (c.before.before.requires.2.page, c.before.before.requires.1, rw c.before.before.requires.3)
+loop_holds c = (c.requires.2.page, c.requires.1, rw c.requires.3)
 
 -- the run's pages are in the batch
-inside : (c : tie.In-loop invariant-loop decreases-loop) → c.before.loop.page + get_or (start c).args.taken.now c.before.loop.run 0 ≤ length (start c).args.written.now
-inside c = pages-inside _ _ _ c.before.loop.invariant.0 _ _ (start c).requires.0 c.loop-test.true
+inside : (c : tie.In-loop-run invariant-loop decreases-loop) → c.loop-run.page + get_or c.args.taken.now c.loop-run.run 0 ≤ length c.args.written.now
+inside c = pages-inside _ _ _ c.loop-run.invariant.0 _ _ c.requires.0 c.loop-run-test.true
 
-here : (c : tie.In-loop invariant-loop decreases-loop) → c.before.loop.page < length (start c).args.written.now
-here c = page-inside _ _ _ c.before.loop.invariant.0 _ _ (start c).requires.0 c.loop-test.true
+here : (c : tie.In-loop-run invariant-loop decreases-loop) → c.loop-run.page < length c.args.written.now
+here c = page-inside _ _ _ c.loop-run.invariant.0 _ _ c.requires.0 c.loop-run-test.true
 
-returns_2 : tie.Need-returns-2 invariant-loop decreases-loop
+returns_2 : tie.Need-returns-then-written-page invariant-loop decreases-loop
 returns_2 c =
-    let so = c.before.before.before.loop.invariant in
-    sym (end_here _ _ _ _ _ (λ l e. c.if2.true (group_here _ _ _ so.0 _ ∙ e))) ∙ so.2
+    let so = c.loop-run.invariant in
+    sym (end_here _ _ _ _ _ (λ l e. c.if-written-page.true (group_here _ _ _ so.0 _ ∙ e))) ∙ so.2
 
-mul_page : tie.Need-overflow-mul-page invariant-loop decreases-loop
-mul_page c = omega (arith, (start c.before.before).pre.0.counts)
+mul_page : tie.Need-offset_bounds-taken-run invariant-loop decreases-loop
+mul_page c = omega (arith, c.requires.0.counts)
 
-shared-slice-read-page : tie.Need-shared-slice-read-page invariant-loop decreases-loop
-shared-slice-read-page c = omega (arith, (start c.before.before.before).pre.0.counts)
+shared-slice-read-page : tie.Need-bounds-taken-run invariant-loop decreases-loop
+shared-slice-read-page c = omega (arith, c.requires.0.counts)
 
-loop_again : tie.Need-loop-preserved invariant-loop decreases-loop
+loop_again : tie.Need-loop-run-preserved invariant-loop decreases-loop
 loop_again c =
-    let so = c.before.before.before.before.loop.invariant in
-    (place_next _ _ _ so.0, omega arith, sym (end_on _ _ _ _ _ c.before.before.before.loop-test.true (sym (group_here _ _ _ so.0 _) ∙ omega (arith, c.before.if2.false))) ∙ so.2)
+    let so = c.loop-run.invariant in
+    (place_next _ _ _ so.0, omega arith, sym (end_on _ _ _ _ _ c.loop-run-test.true (sym (group_here _ _ _ so.0 _) ∙ omega (arith, c.if-written-page.false))) ∙ so.2)
 
-returns_3 : tie.Need-returns-3 invariant-loop decreases-loop
-returns_3 c = sym (end_here _ _ _ _ _ (λ l. absurd (let z : ⊥ = omega (arith, l, c.loop-test.false) in z))) ∙ c.before.loop.invariant.2
+returns_3 : tie.Need-returns invariant-loop decreases-loop
+returns_3 c = sym (end_here _ _ _ _ _ (λ l. absurd (let z : ⊥ = omega (arith, l, c.loop-run-test.false) in z))) ∙ c.loop-run.invariant.2
 
 pub end_of_spec : {M : Type 1} → statement M
 end_of_spec = tie.close (tie.spec invariant-loop decreases-loop returns loop_holds (λ c. omega (arith, here c)) (λ c. here c.before)

@@ -6,48 +6,42 @@ use lib.Dec.{ltb}
 use lib.ListN.{length, drop}
 use borrow.Author.Tests.{ltb-true}
 use Rattle.front.specs.Read.{numbers_of}
-use Rattle.sorting.proofs.SortSpread.{all_get_d}
+use Rattle.sorting.proofs.SortSpread.{all_get_or}
 use Rattle.state.specs.Reading.{read_state}
 use Rattle.state.specs.Shaped.{Shaped}
 use Rattle.collection.proofs.Clearing.{Clearing, erased-shape, cleared_next, cleared-end}
 use Rattle.collection.proofs.erasing.erase_blocks.Statement.{statement}
 use Rattle.collection.proofs.erasing.erase_blocks.Tie as tie
 
-abbrev invariant-loop : tie.invariant-loop
+abbrev invariant-loop : tie.invariant-loop-i
 invariant-loop state₀ spare₀ d blocks i₀ state spare i =
     (i ≤ length blocks) × (length state ≡ length state₀) × (length spare ≡ length spare₀) × Shaped (numbers_of d) (read_state state)
     × Clearing blocks (read_state state₀) spare₀ (drop i blocks) (read_state state) spare
 
-abbrev decreases-loop : tie.decreases-loop
+abbrev decreases-loop : tie.decreases-loop-i
 decreases-loop state₀ spare₀ d blocks i₀ state spare i = length blocks - i
 
-abbrev start : tie.After-shared-slice-known2 invariant-loop decreases-loop → tie.Start invariant-loop decreases-loop
-start c = c.before.before.before.before.before.before.before.before
+loop_holds : tie.Need-loop-i-init invariant-loop decreases-loop
+loop_holds c = (omega arith, refl, refl, c.requires.0, λ plan erased. refl)
 
-abbrev in_loop : tie.After-slice-known4 invariant-loop decreases-loop → tie.In-loop invariant-loop decreases-loop
-in_loop c = c.before.before.before.before.before.before.before.before
-
-loop_holds : tie.Need-loop-init invariant-loop decreases-loop
-loop_holds c = (omega arith, refl, refl, c.before.before.before.requires.0, λ plan erased. refl)
-
-erase_block_requires : tie.Need-erase-block-requires invariant-loop decreases-loop
+erase_block_requires : tie.Need-erase_block-requires invariant-loop decreases-loop
 erase_block_requires c κs =
-    let inv = c.before.before.before.before.loop.invariant in
-    (inv.3, inv.2 ∙ (start c).requires.1, ltb-true _ _ (all_get_d (λ k. ltb k (start c).args.d.m) _ _ (start c).requires.2 (omega arith)))
+    let inv = c.loop-i.invariant in
+    (inv.3, inv.2 ∙ c.requires.1, ltb-true _ _ (all_get_or (λ k. ltb k c.args.d.m) _ _ c.requires.2 (omega arith)))
 
-loop_again : tie.Need-loop-preserved invariant-loop decreases-loop
+loop_again : tie.Need-loop-i-preserved invariant-loop decreases-loop
 loop_again c =
-    let inv = (in_loop c).before.loop.invariant in
-    let made = c.before.before.before.before.erase-block in (
+    let inv = c.loop-i.invariant in
+    let made = c.erase_block in (
       omega arith,
-      omega (arith, made.auto.0),
-      omega (arith, made.auto.1.0),
+      omega (arith, made.auto.state),
+      omega (arith, made.auto.spare),
       erased-shape _ _ _ _ _ _ inv.3 made.ensures,
-      cleared_next _ _ _ _ _ _ inv.4 (in_loop c).loop-test.true _ _ made.ensures,
+      cleared_next _ _ _ _ _ _ inv.4 c.loop-i-test.true _ _ made.ensures,
     )
 
 returns : tie.Need-returns invariant-loop decreases-loop
-returns c = cleared-end _ _ _ _ _ _ c.before.loop.invariant.4 c.loop-test.false
+returns c = cleared-end _ _ _ _ _ _ c.loop-i.invariant.4 c.loop-i-test.false
 
 pub erase_blocks_spec : {M : Type 1} → statement M
 erase_blocks_spec = tie.close (tie.spec invariant-loop decreases-loop loop_holds (λ c. omega arith) (λ c. omega arith)

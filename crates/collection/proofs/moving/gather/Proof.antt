@@ -12,13 +12,13 @@ use Rattle.model.specs.Spare.{middle}
 use Rattle.calls.specs.Collection.{used_block}
 use Rattle.front.specs.Read.{numbers_of}
 use Rattle.sorting.proofs.SortStores.{stored_all}
-use Rattle.sorting.proofs.SortSpread.{all_get_d, uncounted}
+use Rattle.sorting.proofs.SortSpread.{all_get_or, uncounted}
 use Rattle.state.specs.Reading.{read_state}
 use Rattle.collection.proofs.Gathering.{gathered, gathered-end, gathered_next, gathered-count, named-part, named_none, named_count, stored-part}
 use Rattle.collection.proofs.moving.gather.Statement.{statement}
 use Rattle.collection.proofs.moving.gather.Tie as tie
 
-abbrev invariant-loop : tie.invariant-loop
+abbrev invariant-loop : tie.invariant-loop-i
 invariant-loop state spare d blocks pages₀ sources₀ n₀ i₀ pages sources n i =
     (i ≤ length blocks) × (length pages ≡ length pages₀) × (length sources ≡ length sources₀)
     × (length (gathered (read_state state) spare blocks) ≡ n + length (gathered (read_state state) spare (drop i blocks)))
@@ -26,51 +26,42 @@ invariant-loop state spare d blocks pages₀ sources₀ n₀ i₀ pages sources 
     ≡ store pages n (map (middle (numbers_of d) spare) (gathered (read_state state) spare (drop i blocks))))
     × (store sources₀ 0 (gathered (read_state state) spare blocks) ≡ store sources n (gathered (read_state state) spare (drop i blocks)))
 
-abbrev decreases-loop : tie.decreases-loop
+abbrev decreases-loop : tie.decreases-loop-i
 decreases-loop state spare d blocks pages₀ sources₀ n₀ i₀ pages sources n i = length blocks - i
 
-abbrev in_loop : tie.After-slice-known4 invariant-loop decreases-loop → tie.In-loop invariant-loop decreases-loop
-in_loop c = c.before.before.before.before.before.before.before.before
-
-abbrev start : tie.After-gather-block-arg2 invariant-loop decreases-loop → tie.Start invariant-loop decreases-loop
-start c = c.before.before.before.before.before.before.before.before.before.before
-
-abbrev start' : tie.After-slice-known4 invariant-loop decreases-loop → tie.Start invariant-loop decreases-loop
-start' c = (in_loop c).before.before.before.before.before.before.before
-
-loop_holds : tie.Need-loop-init invariant-loop decreases-loop
+loop_holds : tie.Need-loop-i-init invariant-loop decreases-loop
 loop_holds c = (omega arith, refl, refl, sym (zero-add _), refl, refl)
 
-gather_block_requires : tie.Need-gather-block-requires invariant-loop decreases-loop
+gather_block_requires : tie.Need-gather_block-n-requires invariant-loop decreases-loop
 gather_block_requires c κs =
-    let at_loop = c.before.before.before.before.loop in
-    let inside = c.before.before.before.loop-test.true in
-    let part = gathered-count (read_state (start c).args.state.now) (start c).args.spare.now (start c).args.blocks.now at_loop.i inside in (
-      (start c).requires.0,
-      ltb-true _ _ (all_get_d (λ k. ltb k (start c).args.d.m) _ _ (start c).requires.1 inside),
-      omega (arith, part, at_loop.invariant.3, at_loop.invariant.1, (start c).requires.2),
-      omega (arith, part, at_loop.invariant.3, at_loop.invariant.2, (start c).requires.3),
+    let at_loop = c.loop-i in
+    let inside = c.loop-i-test.true in
+    let part = gathered-count (read_state c.args.state.now) c.args.spare.now c.args.blocks.now at_loop.i inside in (
+      c.requires.0,
+      ltb-true _ _ (all_get_or (λ k. ltb k c.args.d.m) _ _ c.requires.1 inside),
+      omega (arith, part, at_loop.invariant.3, at_loop.invariant.1, c.requires.2),
+      omega (arith, part, at_loop.invariant.3, at_loop.invariant.2, c.requires.3),
     )
 
-loop_again : tie.Need-loop-preserved invariant-loop decreases-loop
+loop_again : tie.Need-loop-i-preserved invariant-loop decreases-loop
 loop_again c =
-    let at_loop = (in_loop c).before.loop in
-    let inside = (in_loop c).loop-test.true in
-    let part = gathered-count (read_state (start' c).args.state.now) (start' c).args.spare.now (start' c).args.blocks.now at_loop.i inside in
-    let kept = c.before.before.before.before.gather-block.auto in
-    let made = c.before.before.before.before.gather-block.ensures in (
+    let at_loop = c.loop-i in
+    let inside = c.loop-i-test.true in
+    let part = gathered-count (read_state c.args.state.now) c.args.spare.now c.args.blocks.now at_loop.i inside in
+    let kept = c.gather_block-n.auto in
+    let made = c.gather_block-n.ensures in (
       omega arith,
-      omega (arith, kept.1.1.1.1.0),
-      omega (arith, kept.1.1.1.1.1.0),
-      omega (arith, part, at_loop.inv.3, made.0),
-      stored-part _ _ _ _ _ _ _ _ at_loop.inv.4 (named-part _ _ _ _ inside _) made.1.0 (named_count (numbers_of (start' c).args.d) (start' c).args.spare.now _ _ (used_block (read_state (start' c).args.state.now) (start' c).args.spare.now (get_or (start' c).args.blocks.now at_loop.i 0)).pages made.0),
-      stored-part _ _ _ _ _ _ _ _ at_loop.inv.5 (gathered_next _ _ _ _ inside) made.1.1 made.0,
+      omega (arith, kept.pages),
+      omega (arith, kept.sources),
+      omega (arith, part, at_loop.invariant.3, made.0),
+      stored-part _ _ _ _ _ _ _ _ at_loop.invariant.4 (named-part _ _ _ _ inside _) made.1.0 (named_count (numbers_of c.args.d) c.args.spare.now _ _ (used_block (read_state c.args.state.now) c.args.spare.now (get_or c.args.blocks.now at_loop.i 0)).pages made.0),
+      stored-part _ _ _ _ _ _ _ _ at_loop.invariant.5 (gathered_next _ _ _ _ inside) made.1.1 made.0,
     )
 
 returns : tie.Need-returns invariant-loop decreases-loop
 returns c =
-    let inv = c.before.loop.invariant in
-    let none = gathered-end _ _ _ _ c.loop-test.false in
+    let inv = c.loop-i.invariant in
+    let none = gathered-end _ _ _ _ c.loop-i-test.false in
     (uncounted _ _ _ inv.3 none, (stored_all _ _ _ _ inv.4 (named_none _ _ _ none), stored_all _ _ _ _ inv.5 none))
 
 pub gather_spec : {M : Type 1} → statement M

@@ -19,7 +19,7 @@ use Rattle.collection.proofs.Gathering.{named_next, named_none, room-left}
 use Rattle.collection.proofs.moving.gather_block.Statement.{statement}
 use Rattle.collection.proofs.moving.gather_block.Tie as tie
 
-abbrev invariant-loop : tie.invariant-loop
+abbrev invariant-loop : tie.invariant-loop-i
 invariant-loop state spare d k pages₀ sources₀ n₀ b a n₁ i₀ pages sources n i =
     (i ≤ d.b) × (length pages ≡ length pages₀) × (length sources ≡ length sources₀)
     × (n₀ + length (used_block (read_state state) spare k).pages ≡ n + length (valid_from (valid (read_state state) spare) (numbers_of d) k i))
@@ -27,72 +27,70 @@ invariant-loop state spare d k pages₀ sources₀ n₀ b a n₁ i₀ pages sour
     ≡ store pages n (map (middle (numbers_of d) spare) (valid_from (valid (read_state state) spare) (numbers_of d) k i)))
     × (store sources₀ n₀ (used_block (read_state state) spare k).pages ≡ store sources n (valid_from (valid (read_state state) spare) (numbers_of d) k i))
 
-abbrev decreases-loop : tie.decreases-loop
+abbrev decreases-loop : tie.decreases-loop-i
 decreases-loop state spare d k pages₀ sources₀ n₀ b a n₁ i₀ pages sources n i = d.b - i
 
 -- the test by which they are gathered
 abbrev judged : tie.Start invariant-loop decreases-loop → ℕ → Bool
 judged c = valid (read_state c.args.state.now) c.args.spare.now
 
-mul_a : tie.Need-overflow-mul-a invariant-loop decreases-loop
-mul_a c = omega (arith, block-fits _ _ _ c.before.before.before.before.requires.0 _ c.before.before.before.before.requires.1)
+mul_a : tie.Need-overflow_mul-a invariant-loop decreases-loop
+mul_a c = omega (arith, block-fits _ _ _ c.requires.0 _ c.requires.1)
 
-loop_holds : tie.Need-loop-init invariant-loop decreases-loop
+loop_holds : tie.Need-loop-i-init invariant-loop decreases-loop
 loop_holds c =
-    let start = c.before.before.before.before in
-    let first = sym (pages_first _ _ _ start.requires.0 start.args.k) in (
+    let first = sym (pages_first _ _ _ c.requires.0 c.args.k) in (
       omega arith,
       refl,
       refl,
-      ap (λ (l : List ℕ). start.args.n + length l) first,
-      ap (λ (l : List ℕ). store start.args.pages.now start.args.n (map (middle (numbers_of start.args.d) start.args.spare.now) l)) first,
-      ap (store start.args.sources.now start.args.n) first,
+      ap (λ (l : List ℕ). c.args.n + length l) first,
+      ap (λ (l : List ℕ). store c.args.pages.now c.args.n (map (middle (numbers_of c.args.d) c.args.spare.now) l)) first,
+      ap (store c.args.sources.now c.args.n) first,
     )
 
-add_valid : tie.Need-overflow-add-valid invariant-loop decreases-loop
-add_valid c = omega (arith, page-fits _ _ _ c.before.before.before.before.before.before.requires.0 _ _ c.before.before.before.before.before.before.requires.1 c.loop-test.true)
+add_valid : tie.Need-overflow_add-a invariant-loop decreases-loop
+add_valid c = omega (arith, page-fits _ _ _ c.requires.0 _ _ c.requires.1 c.loop-i-test.true)
 
 valid_requires : tie.Need-valid-requires invariant-loop decreases-loop
-valid_requires c κs = (c.before.before.before.before.before.before.requires.0, in_device _ _ _ c.before.before.before.before.before.before.requires.0 _ _ c.before.before.before.before.before.before.requires.1 c.loop-test.true)
+valid_requires c κs = (c.requires.0, in_device _ _ _ c.requires.0 _ _ c.requires.1 c.loop-i-test.true)
 
-add_middle : tie.Need-overflow-add-middle invariant-loop decreases-loop
-add_middle c = omega (arith, page-fits _ _ _ c.before.before.before.before.before.before.before.before.requires.0 _ _ c.before.before.before.before.before.before.before.before.requires.1 c.before.before.loop-test.true)
+add_middle : tie.Need-overflow_add-a-then-valid invariant-loop decreases-loop
+add_middle c = omega (arith, page-fits _ _ _ c.requires.0 _ _ c.requires.1 c.loop-i-test.true)
 
 middle_requires : tie.Need-middle-requires invariant-loop decreases-loop
 middle_requires c κs =
-    let passed = c.before.before.before.before.before.before.before.before.requires.0 in
-    (passed.shape.limits, passed.fits, omega (arith, in_device _ _ _ passed _ _ c.before.before.before.before.before.before.before.before.requires.1 c.before.before.loop-test.true))
+    let passed = c.requires.0 in
+    (passed.shape.limits, passed.fits, omega (arith, in_device _ _ _ passed _ _ c.requires.1 c.loop-i-test.true))
 
 -- there is room for one more
-room : (c : tie.After-middle invariant-loop decreases-loop) → c.before.before.before.before.loop.n < c.before.before.before.before.before.before.before.before.before.args.n + length (used_block (read_state c.before.before.before.before.before.before.before.before.before.args.state.now) c.before.before.before.before.before.before.before.before.before.args.spare.now c.before.before.before.before.before.before.before.before.before.args.k).pages
-room c = room-left _ _ _ _ _ c.before.before.before.before.loop.invariant.3 (valid_next _ _ _ _ c.before.before.before.loop-test.true _ c.before.before.valid.ensures c.before.if1.true)
+room : (c : tie.After-middle invariant-loop decreases-loop) → c.loop-i.n < c.args.n + length (used_block (read_state c.args.state.now) c.args.spare.now c.args.k).pages
+room c = room-left _ _ _ _ _ c.loop-i.invariant.3 (valid_next _ _ _ _ c.loop-i-test.true _ c.valid.ensures c.if-valid.true)
 
-mul_pages : tie.Need-overflow-mul-pages invariant-loop decreases-loop
-mul_pages c = omega (arith, room c, c.before.before.before.before.before.before.before.before.before.requires.2)
+mul_pages : tie.Need-offset_bounds-pages-n invariant-loop decreases-loop
+mul_pages c = omega (arith, room c, c.requires.2)
 
-slice-write-pages : tie.Need-slice-write-pages invariant-loop decreases-loop
-slice-write-pages c = omega (arith, room c, c.before.before.before.before.before.before.before.before.before.requires.2)
+slice-write-pages : tie.Need-bounds-pages-n invariant-loop decreases-loop
+slice-write-pages c = omega (arith, room c, c.requires.2)
 
-add_sources : tie.Need-overflow-add-sources invariant-loop decreases-loop
-add_sources c = omega (arith, page-fits _ _ _ c.before.before.before.before.before.before.before.before.before.requires.0 _ _ c.before.before.before.before.before.before.before.before.before.requires.1 c.before.before.before.loop-test.true)
+add_sources : tie.Need-overflow_add-sources invariant-loop decreases-loop
+add_sources c = omega (arith, page-fits _ _ _ c.requires.0 _ _ c.requires.1 c.loop-i-test.true)
 
-mul_sources : tie.Need-overflow-mul-sources invariant-loop decreases-loop
-mul_sources c = omega (arith, room c, c.before.before.before.before.before.before.before.before.before.requires.3)
+mul_sources : tie.Need-offset_bounds-sources-n invariant-loop decreases-loop
+mul_sources c = omega (arith, room c, c.requires.3)
 
-slice-write-sources : tie.Need-slice-write-sources invariant-loop decreases-loop
-slice-write-sources c = omega (arith, room c, c.before.before.before.before.before.before.before.before.before.requires.3)
+slice-write-sources : tie.Need-bounds-sources-n invariant-loop decreases-loop
+slice-write-sources c = omega (arith, room c, c.requires.3)
 
-add_n : tie.Need-overflow-add-n invariant-loop decreases-loop
-add_n c = omega (arith, room c, c.before.before.before.before.before.before.before.before.before.requires.2)
+add_n : tie.Need-overflow_add-n invariant-loop decreases-loop
+add_n c = omega (arith, room c, c.requires.2)
 
-add_i : tie.Need-overflow-add-i invariant-loop decreases-loop
-add_i c = omega (arith, (limits _ c.before.before.before.before.before.before.before.before.before.requires.0.shape.limits).most_B)
+add_i : tie.Need-overflow_add-i invariant-loop decreases-loop
+add_i c = omega (arith, (limits _ c.requires.0.shape.limits).most_B)
 
-loop_again : tie.Need-loop-preserved invariant-loop decreases-loop
+loop_again : tie.Need-loop-i-preserved-then-valid invariant-loop decreases-loop
 loop_again c =
-    let inv = c.before.before.before.before.loop.invariant in
-    let start = c.before.before.before.before.before.before.before.before.before in
-    let next = valid_next (judged start) (numbers_of start.args.d) start.args.k _ c.before.before.before.loop-test.true _ c.before.before.valid.ensures c.before.if1.true in (
+    let inv = c.loop-i.invariant in
+    let next = valid_next (judged c.before.before.before.before.before.before.before.before.before) (numbers_of c.args.d) c.args.k _ c.loop-i-test.true _ c.valid.ensures c.if-valid.true in (
       omega arith,
       simp length-set (omega arith),
       simp length-set (omega arith),
@@ -101,27 +99,25 @@ loop_again c =
       stored_on _ _ _ _ _ _ inv.5 next,
     )
 
-add_i_2 : tie.Need-overflow-add-i-2 invariant-loop decreases-loop
-add_i_2 c = omega (arith, (limits _ c.before.before.before.before.before.before.before.before.requires.0.shape.limits).most_B)
+add_i_2 : tie.Need-overflow_add-i-in-loop-i invariant-loop decreases-loop
+add_i_2 c = omega (arith, (limits _ c.requires.0.shape.limits).most_B)
 
-loop_again_2 : tie.Need-loop-preserved-2 invariant-loop decreases-loop
+loop_again_2 : tie.Need-loop-i-preserved invariant-loop decreases-loop
 loop_again_2 c =
-    let start = c.before.before.before.before.before.before.before.before in
-    let at_loop = c.before.before.before.loop in
-    let passed = valid-passed (judged start) (numbers_of start.args.d) start.args.k _ c.before.before.loop-test.true _ c.before.valid.ensures c.if1.false in (
+    let at_loop = c.loop-i in
+    let passed = valid-passed (judged c.before.before.before.before.before.before.before.before) (numbers_of c.args.d) c.args.k _ c.loop-i-test.true _ c.valid.ensures c.if-valid.false in (
       omega arith,
       at_loop.invariant.1,
       at_loop.invariant.2,
       at_loop.invariant.3 ∙ ap (λ (l : List ℕ). at_loop.n + length l) passed,
-      at_loop.invariant.4 ∙ ap (λ (l : List ℕ). store at_loop.pages at_loop.n (map (middle (numbers_of start.args.d) start.args.spare.now) l)) passed,
+      at_loop.invariant.4 ∙ ap (λ (l : List ℕ). store at_loop.pages at_loop.n (map (middle (numbers_of c.args.d) c.args.spare.now) l)) passed,
       at_loop.invariant.5 ∙ ap (store at_loop.sources at_loop.n) passed,
     )
 
 returns : tie.Need-returns invariant-loop decreases-loop
 returns c =
-    let inv = c.before.loop.invariant in
-    let start = c.before.before.before.before.before.before in
-    let none = valid-end (judged start) (numbers_of start.args.d) start.args.k _ c.loop-test.false in
+    let inv = c.loop-i.invariant in
+    let none = valid-end (judged c.before.before.before.before.before.before) (numbers_of c.args.d) c.args.k _ c.loop-i-test.false in
     (uncounted _ _ _ inv.3 none, (stored_all _ _ _ _ inv.4 (named_none _ _ _ none), stored_all _ _ _ _ inv.5 none))
 
 pub gather_block_spec : {M : Type 1} → statement M

@@ -13,13 +13,13 @@ use Rattle.lines.proofs.print.lay_record.Tie as tie
 returns : tie.Need-returns
 unfolding signed ascii line_for
 returns c =
-    let back = to_z-of_z {w = w32} {z = c.before.before.before.before.before.before.before.before.before.before.before.before.before.before.before.before.before.before.before.before.before.before.before.before.before.before.args.r.intercept} (record { sfits = c.before.before.before.before.before.before.before.struct_told.given.1.1.1.0.1 }) in
-    let level = c.before.before.before.before.before.before.before.before.before.before.before.before.before.before.before.before.before.before.before.before.before.before.before.put-number.ensures in
-    let start = c.before.before.before.before.before.before.before.before.before.before.before.before.before.before.before.before.before.before.before.put-number2.ensures in
-    let span = c.before.before.before.before.before.before.before.before.before.before.before.before.before.before.before.put-number3.ensures in
-    let word = c.before.before.before.before.before.before.before.before.before.before.before.put-number4.ensures in
-    let intercept = c.before.before.before.before.before.before.put-integer.ensures in
-    let newline = c.before.before.put_byte.ensures in (
+    let back = to_z-of_z {w = w32} {z = c.args.r.intercept} (record { sfits = c.struct_told-1.given.1.1.1.0.1 }) in
+    let level = c.put_number-a.ensures in
+    let start = c.put_number-b.ensures in
+    let span = c.put_number-c.ensures in
+    let word = c.put_number-d.ensures in
+    let intercept = c.put_integer-e.ensures in
+    let newline = c.put_byte.ensures in (
       laid_then level.0 (laid_then start.0 (laid_then span.0 (laid_then word.0 (laid_then (laid_as (ap (λ (z : ℤ). right 10 (integer z)) back) intercept.0) newline)))),
       omega (arith, level.1, start.1, span.1, word.1, intercept.1, newline.next),
     )

@@ -8,10 +8,10 @@ use Rattle.lines.proofs.print.lay_refused.Tie as tie
 returns : tie.Need-returns
 unfolding signed ascii refused_line
 returns c =
-    laid_then c.before.before.before.before.before.before.before.before.before.before.put-text.ensures
-    (laid_then (laid_as (right_none (decimal c.before.before.before.before.before.before.before.before.before.before.before.before.before.before.args.n)) c.before.before.before.before.before.before.put-number.ensures.0)
-    c.before.before.put_byte.ensures)
+    laid_then c.put_text-a.ensures
+    (laid_then (laid_as (right_none (decimal c.args.n)) c.put_number-b.ensures.0)
+    c.put_byte.ensures)
 
 pub lay_refused_spec : {M : Type 1} → statement M
-lay_refused_spec = tie.close (tie.spec (λ c. search rules) (λ c κs. search rules) (λ c κs. search rules)
+lay_refused_spec = tie.close (tie.spec (λ c κs. search rules) (λ c κs. search rules)
     (λ c κs. search rules) (λ c. search rules) returns)

@@ -9,27 +9,27 @@ use borrow.Author.Rules.{rules}
 use Rattle.lines.proofs.read.all_numbers.Statement.{statement}
 use Rattle.lines.proofs.read.all_numbers.Tie as tie
 
-abbrev invariant-loop : tie.invariant-loop
+abbrev invariant-loop : tie.invariant-loop-i
 invariant-loop line count i₀ i = (i ≤ count) × (is_there (numbers_from line 0 count) ≡ is_there (numbers_from line i (count - i)))
 
-abbrev decreases-loop : tie.decreases-loop
+abbrev decreases-loop : tie.decreases-loop-i
 decreases-loop line count i₀ i = count - i
 
-loop_holds : tie.Need-loop-init invariant-loop decreases-loop
+loop_holds : tie.Need-loop-i-init invariant-loop decreases-loop
 loop_holds c =
-    let e : c.before.args.count ≡ c.before.args.count - 0 = omega arith in
-    (omega arith, ap (λ (n : ℕ). is_there (numbers_from c.before.args.line.now 0 n)) e)
+    let e : c.args.count ≡ c.args.count - 0 = omega arith in
+    (omega arith, ap (λ (n : ℕ). is_there (numbers_from c.args.line.now 0 n)) e)
 
-returns : tie.Need-returns invariant-loop decreases-loop
+returns : tie.Need-returns-in-Bad invariant-loop decreases-loop
 unfolding field_read
-returns c = sym (c.before.before.before.before.loop.invariant.1 ∙ field_bad _ _ _ c.before.before.before.loop-test.true (sym c.before.before.number_at.ensures ∙ ap field_read c.enum_told.given.1))
+returns c = sym (c.loop-i.invariant.1 ∙ field_bad _ _ _ c.loop-i-test.true (sym c.number_at-field.ensures ∙ ap field_read c.in-Bad.is))
 
-loop_again : tie.Need-loop-preserved invariant-loop decreases-loop
+loop_again : tie.Need-loop-i-preserved invariant-loop decreases-loop
 unfolding field_read
-loop_again c = (omega arith, c.before.before.before.before.loop.invariant.1 ∙ field_good _ _ _ _ c.before.before.before.loop-test.true (sym c.before.before.number_at.ensures ∙ ap field_read c.enum-told2.given.1))
+loop_again c = (omega arith, c.loop-i.invariant.1 ∙ field_good _ _ _ _ c.loop-i-test.true (sym c.number_at-field.ensures ∙ ap field_read c.in_default.is))
 
-returns_2 : tie.Need-returns-2 invariant-loop decreases-loop
-returns_2 c = sym (c.before.loop.invariant.1 ∙ fields_passed _ _ _ c.loop-test.false)
+returns_2 : tie.Need-returns invariant-loop decreases-loop
+returns_2 c = sym (c.loop-i.invariant.1 ∙ fields_passed _ _ _ c.loop-i-test.false)
 
 pub all_numbers_spec : {M : Type 1} → statement M
 all_numbers_spec = tie.close (tie.spec invariant-loop decreases-loop loop_holds (λ c κs. omega arith) (λ c. search rules) returns

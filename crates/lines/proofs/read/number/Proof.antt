@@ -6,12 +6,12 @@ use borrow.Author.Rules.{rules}
 use Rattle.lines.proofs.read.number.Statement.{statement}
 use Rattle.lines.proofs.read.number.Tie as tie
 
-returns : tie.Need-returns
+returns : tie.Need-returns-then-field-i
 unfolding field_read
-returns c = sym (c.before.blanks.ensures.1 ∙ blanks_only _ _ c.if1.true)
+returns c = sym (c.blanks-i.ensures.1 ∙ blanks_only _ _ c.if-field-i.true)
 
-returns_2 : tie.Need-returns-2
-returns_2 c = c.digits.ensures ∙ sym (c.before.before.blanks.ensures.1 ∙ digits-begin _ _ c.before.if1.false (c.before.before.blanks.ensures.2 c.before.if1.false))
+returns_2 : tie.Need-returns
+returns_2 c = c.digits.ensures ∙ sym (c.blanks-i.ensures.1 ∙ digits-begin _ _ c.if-field-i.false (c.blanks-i.ensures.2 c.if-field-i.false))
 
 pub number_spec : {M : Type 1} → statement M
 number_spec = tie.close (tie.spec (λ c κs. search rules) returns (λ c κs. search rules) returns_2)

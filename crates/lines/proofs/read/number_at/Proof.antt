@@ -10,7 +10,7 @@ use Rattle.lines.proofs.read.number_at.Tie as tie
 
 returns : tie.Need-returns
 returns c =
-    let start = c.before.before.before.args in
+    let start = c.args in
     let e : 2 + 8 * start.i + 8 - (2 + 8 * start.i) ≡ 8 = omega arith in
     c.number.ensures ∙ ap (λ (n : ℕ). number_in (take n (drop (2 + 8 * start.i) start.line.now))) e
 

@@ -1,6 +1,4 @@
 -- The first 2 columns are lent as a part of the line.
-use native.Mathlib.Omega.{arith}
-use mathlib.Core.Path.{sym}
 use lib.Seq.{length-take-le}
 use borrow.Author.Rules.{rules}
 use Rattle.lines.proofs.read.operation.Statement.{statement}

@@ -3,7 +3,6 @@ use native.Mathlib.Omega.{arith}
 use mathlib.Core.Path.{◌≡◌, sym, ap, ◌∙◌}
 use mathlib.Core.Option.{some}
 use mathlib.Core.Bool.{true}
-use borrow.Author.Tests.{not-true, not-false}
 use Rattle.lines.specs.Script.{takes, operation_in, field_count}
 use Rattle.lines.specs.Reading.{field_read}
 use Rattle.lines.proofs.Fields.{length-values}
@@ -13,38 +12,38 @@ use Rattle.lines.proofs.read.read.Statement.{statement}
 use Rattle.lines.proofs.read.read.Tie as tie
 
 -- the operation that the line has
-held : (c : tie.After-known-told) → operation_in c.before.before.before.before.before.before.before.before.args.line.now ≡ some c.before.op.given.0.0
+held : (c : tie.In-Number) → operation_in c.args.line.now ≡ some c.in-Number.op
 unfolding field_read
-held c = sym c.before.before.before.operation.ensures ∙ ap field_read c.before.op.given.1
+held c = sym c.operation.ensures ∙ ap field_read c.in-Number.is
 
 -- it takes as many numbers as the line has fields
-taken : (c : tie.Else3) → takes c.before.before.before.op.given.0.0 (field_count c.before.before.before.before.before.before.before.before.before.before.args.line.now) ≡ true
-taken c = sym c.before.takes.ensures ∙ not-false _ c.if3.false
+taken : (c : tie.Else-not-takes) → takes c.in-Number.op (field_count c.args.line.now) ≡ true
+taken c = sym c.takes.ensures ∙ c.if-not-takes.false
 
-returns : tie.Need-returns
-returns c = bad-read _ _ (too_short_lem _ c.if1.true)
+returns : tie.Need-returns-then-line-lt2
+returns c = bad-read _ _ (too_short_lem _ c.if-line-lt2.true)
 
-returns_2 : tie.Need-returns-2
-returns_2 c = bad-read _ _ (part_field _ c.before.if1.false c.if2.true)
+returns_2 : tie.Need-returns-then-line-ne0
+returns_2 c = bad-read _ _ (part_field _ c.if-line-lt2.false c.if-line-ne0.true)
 
-returns_3 : tie.Need-returns-3
+returns_3 : tie.Need-returns-in_default
 unfolding field_read
-returns_3 c = bad-read _ _ (no_operation _ c.before.before.before.before.if1.false c.before.before.before.if2.false (sym c.before.before.operation.ensures ∙ ap field_read c.enum_told.given.1))
+returns_3 c = bad-read _ _ (no_operation _ c.if-line-lt2.false c.if-line-ne0.false (sym c.operation.ensures ∙ ap field_read c.in_default.is))
 
-returns_4 : tie.Need-returns-4
-returns_4 c = bad-read _ _ (other_count _ c.before.before.before.before.before.before.before.if1.false c.before.before.before.before.before.before.if2.false _ (held c.before.before) (sym c.before.takes.ensures ∙ not-true _ c.if3.true))
+returns_4 : tie.Need-returns-then-not-takes
+returns_4 c = bad-read _ _ (other_count _ c.if-line-lt2.false c.if-line-ne0.false _ (held c.before.before) (sym c.takes.ensures ∙ c.if-not-takes.true))
 
-returns_5 : tie.Need-returns-5
-returns_5 c = bad-read _ _ (no_numbers _ c.before.before.before.before.before.before.before.before.before.if1.false c.before.before.before.before.before.before.before.before.if2.false (sym c.before.all-numbers.ensures ∙ not-true _ c.if4.true))
+returns_5 : tie.Need-returns-then-not-all_numbers
+returns_5 c = bad-read _ _ (no_numbers _ c.if-line-lt2.false c.if-line-ne0.false (sym c.all_numbers.ensures ∙ c.if-not-all_numbers.true))
 
 fill_requires : tie.Need-fill-requires
 fill_requires c κs = (omega arith, omega (arith, takes-few _ _ (taken c.before.before.before)))
 
-returns_6 : tie.Need-returns-6
+returns_6 : tie.Need-returns
 returns_6 c =
     call-read _ _ _ _ _ _
-    (is_call _ c.before.before.before.before.before.before.before.before.before.before.before.before.before.if1.false c.before.before.before.before.before.before.before.before.before.before.before.before.if2.false _ (held c.before.before.before.before.before.before.before.before) (taken c.before.before.before.before.before.before) (sym c.before.before.before.before.before.all-numbers.ensures ∙ not-false _ c.before.before.before.before.if4.false))
-    c.before.before.fill.ensures
+    (is_call _ c.if-line-lt2.false c.if-line-ne0.false _ (held c.before.before.before.before.before.before.before.before) (taken c.before.before.before.before.before.before) (sym c.all_numbers.ensures ∙ c.if-not-all_numbers.false))
+    c.fill.ensures
     (length-values _ _ _)
 
 pub read_spec : {M : Type 1} → statement M

@@ -8,14 +8,14 @@ use borrow.Author.Rules.{rules}
 use Rattle.lookup.proofs.agree.refuses.Statement.{statement}
 use Rattle.lookup.proofs.agree.refuses.Tie as tie
 
-returns : tie.Need-returns
+returns : tie.Need-returns-in_default
 returns c =
-    let says = not_refused c.before.compare.result c.match.keys2 in
-    ap not (sym (self_answers _ _ says.answer (says.is ∙ c.before.compare.ensures)))
+    let says = not_refused c.compare.result c.in_default.in_default-own.keys2 in
+    ap not (sym (self_answers _ _ says.answer (says.is ∙ c.compare.ensures)))
 
-returns_2 : tie.Need-returns-2
+returns_2 : tie.Need-returns
 unfolding agree_answer
-returns_2 c = ap not (sym (self_refuses _ _ _ (sym (ap agree_answer c.enum_told.given.1) ∙ c.before.before.compare.ensures)))
+returns_2 c = ap not (sym (self_refuses _ _ _ (sym (ap agree_answer c.in-Refused.is) ∙ c.compare.ensures)))
 
 pub refuses_spec : {M : Type 1} → statement M
-refuses_spec = tie.close (tie.spec (λ c κs. let pre = c.before.before.requires in (pre, pre, refl)) (λ c. search rules) returns returns_2)
+refuses_spec = tie.close (tie.spec (λ c κs. let pre = c.requires in (pre, pre, refl)) (λ c. search rules) returns returns_2)

@@ -6,12 +6,12 @@ use Rattle.lookup.proofs.Comparing.{not_refused}
 use Rattle.lookup.proofs.alike.is_named.Statement.{statement}
 use Rattle.lookup.proofs.alike.is_named.Tie as tie
 
-returns : tie.Need-returns
-returns c = not_refused c.before.args.looked c.match.keys2
+returns : tie.Need-returns-in_default
+returns c = not_refused c.args.looked c.in_default.in_default-own.keys2
 
-returns_2 : tie.Need-returns-2
+returns_2 : tie.Need-returns
 unfolding is_named as_looked
-returns_2 c = rw c.enum_told.given.1
+returns_2 c = rw c.in-Refused.is
 
 pub is_named_spec : {M : Type 1} → statement M
 is_named_spec = tie.close (tie.spec (λ c. search rules) returns returns_2)

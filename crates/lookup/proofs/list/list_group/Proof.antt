@@ -10,24 +10,21 @@ use borrow.Author.Rules.{rules}
 use Rattle.lookup.proofs.list.list_group.Statement.{statement}
 use Rattle.lookup.proofs.list.list_group.Tie as tie
 
-abbrev start : tie.After-list-slots-arg2 → tie.Start
-start c = c.before.before.before.before.before.before
-
 -- the part is group k's
-part : (c : tie.After-group-end) → GroupPart c.before.before.before.before.args.state.now c.before.before.before.before.args.k c.before.group-place.result c.group-end.result
-part c = lent _ _ c.before.before.before.before.requires.0 _ _ _ c.before.before.before.before.requires.1 c.before.group-place.ensures c.group-end.ensures
+part : (c : tie.After-group_end-e) → GroupPart c.args.state.now c.args.k c.group_place-a.result c.group_end-e.result
+part c = lent _ _ c.requires.0 _ _ _ c.requires.1 c.group_place-a.ensures c.group_end-e.ensures
 
-part-list_slots-end : tie.Need-slice-bounds-list-slots-end
+part-list_slots-end : tie.Need-slice_bounds-list_slots-end
 part-list_slots-end c = omega (arith, (part c).inside)
 
-list_slots_requires : tie.Need-list-slots-requires
-list_slots_requires c κs = (part_room _ _ _ _ _ (part c.before.before) (start c).requires.2, (start c).requires.3)
+list_slots_requires : tie.Need-list_slots-requires
+list_slots_requires c κs = (part_room _ _ _ _ _ (part c.before.before) c.requires.2, c.requires.3)
 
 returns : tie.Need-returns
 returns c =
     let l = part c.before.before.before.before.before in
-    let sound = (start c.before.before.before).requires.2 in
-    (c.before.before.list-slots.ensures.0 ∙ part_count _ _ _ _ _ l sound, c.before.before.list-slots.ensures.1 ∙ ap (λ (v : List ℕ). store (start c.before.before.before).args.out.now 0 v) (part-listed _ _ _ _ _ l sound))
+    let sound = c.requires.2 in
+    (c.list_slots.ensures.0 ∙ part_count _ _ _ _ _ l sound, c.list_slots.ensures.1 ∙ ap (λ (v : List ℕ). store c.args.out.now 0 v) (part-listed _ _ _ _ _ l sound))
 
 pub list_group_spec : {M : Type 1} → statement M
 list_group_spec = tie.close (tie.spec (λ c κs. search rules) (λ c κs. search rules) (λ c. search rules)

@@ -17,29 +17,25 @@ use Rattle.lookup.proofs.Looking.{lookup-refused, lookup-answers}
 use Rattle.lookup.proofs.lookup.lookup.Statement.{statement}
 use Rattle.lookup.proofs.lookup.lookup.Tie as tie
 
--- where the page passed its checks: the state, its spare area, the page
-abbrev start : tie.After-known-told → tie.Start
-start c = c.before.before.before.before.before.before
+abbrev s : tie.In-Device → State
+s c = read_state c.args.state.now
 
-abbrev s : tie.After-known-told → State
-s c = read_state (start c).args.state.now
-
-abbrev area : tie.After-known-told → List ℕ
-area c = (start c).args.spare.now
+abbrev area : tie.In-Device → List ℕ
+area c = c.args.spare.now
 
 -- what that says
-passed : (c : tie.After-known-told)
-    → (first_refusal (lookup_checks (start c).args.page (lend (s c) (area c) [] [])) ≡ none) × ((s c).device ≡ numbers_of c.before.opened.given.0.0)
-passed c = passed_all _ (s c).device _ c.before.before.before.open-page.ensures _ c.before.opened.given.1
+passed : (c : tie.In-Device)
+    → (first_refusal (lookup_checks c.args.page (lend (s c) (area c) [] [])) ≡ none) × ((s c).device ≡ numbers_of c.in-Device.d)
+passed c = passed_all _ (s c).device _ c.open_page-opened.ensures _ c.in-Device.is
 
-returns : tie.Need-returns
+returns : tie.Need-returns-in-Refused
 unfolding lookup_answer
-returns c = lookup-refused _ _ _ _ (refused_first _ _ _ c.before.before.before.open-page.ensures _ c.before.opened2.given.1)
+returns c = lookup-refused _ _ _ _ (refused_first _ _ _ c.open_page-opened.ensures _ c.in-Refused.is)
 
 seek_requires : tie.Need-seek-requires
 seek_requires c κs = opened-page (s c) (area c) _ _ (passed c).0 (passed c).1
 
-returns_2 : tie.Need-returns-2
+returns_2 : tie.Need-returns
 returns_2 c = lookup-answers _ _ _ (passed c.before).0 _ c.seek.ensures
 
 pub lookup_spec : {M : Type 1} → statement M

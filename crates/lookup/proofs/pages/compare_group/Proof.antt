@@ -11,30 +11,26 @@ use borrow.Author.Rules.{rules}
 use Rattle.lookup.proofs.pages.compare_group.Statement.{statement}
 use Rattle.lookup.proofs.pages.compare_group.Tie as tie
 
-returns : tie.Need-returns
-returns c = λ p q tp tq. c.compare_same.ensures p q tp (λ o h. rw (c.before.before.same-forecasts.ensures.yes c.before.if1.true o h) (tq o h))
+returns : tie.Need-returns-then-same_forecasts
+returns c = λ p q tp tq. c.compare_same.ensures p q tp (λ o h. rw (c.same_forecasts.ensures.yes c.if-same_forecasts.true o h) (tq o h))
 
-returns_2 : tie.Need-returns-2
+returns_2 : tie.Need-returns-in_default
 unfolding agree_answer refusal_of
 returns_2 c = λ p q tp tq.
-    let start = c.before.before.before.before.before.before.before.before in
-    first_seven p start.args.x start.args.m (self_other p start.args.x start.args.m _ (not_yes c.before.compare-same2.result c.match.keys2) (c.before.compare-same2.ensures p p tp tp)) q
+    first_seven p c.args.x c.args.m (self_other p c.args.x c.args.m _ (not_yes c.compare_same-2.result c.in_default.in_default-own.keys2) (c.compare_same-2.ensures p p tp tp)) q
 
-returns_3 : tie.Need-returns-3
+returns_3 : tie.Need-returns-in_default-compare_same
 unfolding agree_answer refusal_of
 returns_3 c = λ p q tp tq.
-    let start = c.before.before.before.before.before.before.before.before.before.before.before in
-    second_seven q start.args.x start.args.m (self_other q start.args.x start.args.m _ (not_yes c.before.compare-same3.result c.match2.keys2) (c.before.compare-same3.ensures q q tq tq)) p
+    second_seven q c.args.x c.args.m (self_other q c.args.x c.args.m _ (not_yes c.compare_same-3.result c.in_default-compare_same.in_default-compare_same-own.keys2) (c.compare_same-3.ensures q q tq tq)) p
 
-returns_4 : tie.Need-returns-4
+returns_4 : tie.Need-returns
 unfolding agree_answer pages
 returns_4 c = λ p q tp tq.
-    let first = c.before.before.before.before.before in
-    let start = first.before.before.before.before.before.before.before in
-    differ_no _ _ (pages-small (numbers_of start.args.a) start.requires.0) (pages-small (numbers_of start.args.b) start.requires.2) _ _ p q start.args.x start.args.m start.args.first.now start.args.second.now tp tq
-    (self_yes p start.args.x start.args.m _ (ap agree_answer c.before.before.before.enum_told.given.1) (first.compare-same2.ensures p p tp tp))
-    (self_yes q start.args.x start.args.m _ (ap agree_answer c.enum-told2.given.1) (c.before.before.compare-same3.ensures q q tq tq))
-    (first.before.before.same-forecasts.ensures.no first.before.if1.false)
+    differ_no _ _ (pages-small (numbers_of c.args.a) c.requires.0) (pages-small (numbers_of c.args.b) c.requires.2) _ _ p q c.args.x c.args.m c.args.first.now c.args.second.now tp tq
+    (self_yes p c.args.x c.args.m _ (ap agree_answer c.in-Yes.is) (c.compare_same-2.ensures p p tp tp))
+    (self_yes q c.args.x c.args.m _ (ap agree_answer c.in-Yes-compare_same.is) (c.compare_same-3.ensures q q tq tq))
+    (c.same_forecasts.ensures.no c.if-same_forecasts.false)
 
 pub compare_group_spec : {M : Type 1} → statement M
-compare_group_spec = tie.close (tie.spec (λ c κs. let pre = c.before.before.before.before.requires in (omega (arith, pre.5, pre.6), omega (arith, pre.5, pre.7))) (λ c κs. search rules) returns (λ c κs. search rules) (λ c. search rules) returns_2 (λ c κs. search rules) (λ c. search rules) returns_3 returns_4)
+compare_group_spec = tie.close (tie.spec (λ c κs. let pre = c.requires in (omega (arith, pre.5, pre.6), omega (arith, pre.5, pre.7))) (λ c κs. search rules) returns (λ c κs. search rules) (λ c. search rules) returns_2 (λ c κs. search rules) (λ c. search rules) returns_3 returns_4)

@@ -7,17 +7,17 @@ use borrow.Author.Rules.{rules}
 use Rattle.lookup.proofs.pages.same_forecasts.Statement.{statement}
 use Rattle.lookup.proofs.pages.same_forecasts.Tie as tie
 
-abbrev invariant-loop : tie.invariant-loop
+abbrev invariant-loop : tie.invariant-loop-o
 invariant-loop first second m same₀ o₀ same o = (o ≤ m) × SameBelow first second o same
 
-abbrev decreases-loop : tie.decreases-loop
+abbrev decreases-loop : tie.decreases-loop-o
 decreases-loop first second m same₀ o₀ same o = m - o
 
-loop_again : tie.Need-loop-preserved invariant-loop decreases-loop
-loop_again c = let turn = c.before.before.before.loop in (omega (arith, c.before.before.loop-test.true), same_turn _ _ _ _ turn.invariant.1)
+loop_again : tie.Need-loop-o-preserved invariant-loop decreases-loop
+loop_again c = let turn = c.loop-o in (omega (arith, c.loop-o-test.true), same_turn _ _ _ _ turn.invariant.1)
 
 returns : tie.Need-returns invariant-loop decreases-loop
-returns c = let turn = c.before.loop in same_end _ _ _ _ _ turn.invariant.1 turn.invariant.0 (omega (arith, c.loop-test.false))
+returns c = let turn = c.loop-o in same_end _ _ _ _ _ turn.invariant.1 turn.invariant.0 (omega (arith, c.loop-o-test.false))
 
 pub same_forecasts_spec : {M : Type 1} → statement M
 same_forecasts_spec = tie.close (tie.spec invariant-loop decreases-loop (λ c. (omega arith, same_start _ _)) (λ c. search rules) (λ c. omega arith) (λ c. search rules) (λ c. omega arith)

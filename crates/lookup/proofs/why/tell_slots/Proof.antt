@@ -17,160 +17,140 @@ use Rattle.lookup.proofs.WhyLeft.{owner-small, stands_by, Left, left_all, left-d
 use Rattle.lookup.proofs.why.tell_slots.Statement.{statement}
 use Rattle.lookup.proofs.why.tell_slots.Tie as tie
 
-abbrev invariant-loop : tie.invariant-loop
+abbrev invariant-loop : tie.invariant-loop-i
 invariant-loop b o out₀ n w k₀ i₀ out k i = Left b n o out₀ out k i
 
-abbrev decreases-loop : tie.decreases-loop
+abbrev decreases-loop : tie.decreases-loop-i
 decreases-loop b o out₀ n w k₀ i₀ out k i = n - i
 
 -- the start, from the loop; the slot, from where its entry is stored
-abbrev start : tie.At-loop invariant-loop decreases-loop → tie.Start invariant-loop decreases-loop
+abbrev start : tie.At-loop-i invariant-loop decreases-loop → tie.Start invariant-loop decreases-loop
 start c = c.before.before.before.before.before.before
-
-abbrev at_slot : tie.After-slice-known3 invariant-loop decreases-loop → tie.After-slot-at invariant-loop decreases-loop
-at_slot c = c.before.before.before.before.before.before.before.before.before
 
 -- the group that the bytes encode, and how many slots it uses
 group : (c : tie.Start invariant-loop decreases-loop) → encodes c.args.b.now ≡ true
 group c = sound-encodes _ _ _ c.requires.1.sound
 
-few : (c : tie.After-used invariant-loop decreases-loop) → c.used.result ≤ 512
-few c = omega (arith, c.used.ensures.0, few-used _ (group c.before.before.before))
+few : (c : tie.After-used-n invariant-loop decreases-loop) → c.used-n.result ≤ 512
+few c = omega (arith, c.used-n.ensures.0, few-used _ (group c.before.before.before))
 
 -- a slot's level is among the entries
-low : (c : tie.After-slot-at invariant-loop decreases-loop) → c.slot_at.result.level < 512
+low : (c : tie.After-slot_at-s invariant-loop decreases-loop) → c.slot_at-s.result.level < 512
 low c =
-    let loop = c.before.before in
     omega (
       arith,
-      few loop.before.before.before,
-      c.before.loop-test.true,
-      loop.before.before.before.used.ensures.0,
-      ap (λ (s : _). s.level) c.slot_at.ensures.0,
-      level-low _ (group (start loop)) loop.loop.i (omega (arith, c.before.loop-test.true, loop.before.before.before.used.ensures.0)),
+      few c.before.before.before.before.before,
+      c.loop-i-test.true,
+      c.used-n.ensures.0,
+      ap (λ (s : _). s.level) c.slot_at-s.ensures.0,
+      level-low _ (group c.before.before.before.before.before.before.before.before) c.loop-i.i (omega (arith, c.loop-i-test.true, c.used-n.ensures.0)),
     )
 
 -- its entry stands for its record's reason
-stands : (c : tie.After-entry-for invariant-loop decreases-loop)
-    → Stands c.entry-for.result (reason_of (start c.before.before.before).args.o (start_of (owner_of (start c.before.before.before).args.b.now (start c.before.before.before).args.o))
-    (record_of (owner_of (start c.before.before.before).args.b.now) c.before.slot_at.result))
+stands : (c : tie.After-entry_for-e invariant-loop decreases-loop)
+    → Stands c.entry_for-e.result (reason_of c.args.o (start_of (owner_of c.args.b.now c.args.o))
+    (record_of (owner_of c.args.b.now) c.slot_at-s.result))
 stands c =
-    let loop = c.before.before.before in
-    let given = (start loop).requires in
-    let owner = loop.before.before.owner.ensures.0 in
-    let slot = c.before.slot_at in
+    let given = c.requires in
+    let owner = c.owner-w.ensures.0 in
+    let slot = c.slot_at-s in
     stands_by _ _ _ _ _ owner
-    (c.entry-for.ensures _
-    (slot_owns _ given.1 _ _ loop.before.before.before.used.ensures.0 c.before.before.loop-test.true slot.result slot.ensures.0 _ given.2 _
+    (c.entry_for-e.ensures _
+    (slot_owns _ given.1 _ _ c.used-n.ensures.0 c.loop-i-test.true slot.result slot.ensures.0 _ given.2 _
     (ap (λ (v : ℕ). eqb v (slot.result.held.start + 1)) owner)))
 
-next_met_requires : tie.Need-next-met-requires invariant-loop decreases-loop
+next_met_requires : tie.Need-next_met-i-requires invariant-loop decreases-loop
 next_met_requires c κs =
-    let given = c.before.before.before.before.requires in
-    (given.0, given.1, given.2, c.before.used.ensures.0, few c.before, omega arith)
+    let given = c.requires in
+    (given.0, given.1, given.2, c.used-n.ensures.0, few c.before, omega arith)
 
-loop_holds : tie.Need-loop-init invariant-loop decreases-loop
+loop_holds : tie.Need-loop-i-init invariant-loop decreases-loop
 loop_holds c =
-    let given = c.before.before.before.before.before.requires in
-    let met = c.next-met.ensures in
-    left_all _ _ _ given.1 given.2 c.before.before.used.ensures.0 _ _ met.1 met.2 (met.3 _)
+    let given = c.requires in
+    let met = c.next_met-i.ensures in
+    left_all _ _ _ given.1 given.2 c.used-n.ensures.0 _ _ met.1 met.2 (met.3 _)
 
-slot_at_requires : tie.Need-slot-at-requires invariant-loop decreases-loop
-slot_at_requires c κs = ((start c.before).pre.0, omega (arith, c.loop-test.true, few c.before.before.before.before))
+slot_at_requires : tie.Need-slot_at-s-requires invariant-loop decreases-loop
+slot_at_requires c κs = (c.requires.0, omega (arith, c.loop-i-test.true, few c.before.before.before.before))
 
-entry_for_requires : tie.Need-entry-for-requires invariant-loop decreases-loop
+entry_for_requires : tie.Need-entry_for-e-requires invariant-loop decreases-loop
 entry_for_requires c κs =
-    let loop = c.before.before in
-    let given = (start loop).requires in
-    let used = loop.before.before.before.used.ensures.0 in
-    let test = c.before.loop-test.true in
-    let slot = c.slot_at in (
+    let given = c.requires in
+    let used = c.used-n.ensures.0 in
+    let test = c.loop-i-test.true in
+    let slot = c.slot_at-s in (
       given.2,
       slot-inside _ given.1 _ _ used test slot.result slot.ensures.0,
       slot-single _ given.1 _ _ used test slot.result slot.ensures.0,
-      omega (arith, loop.before.before.owner.ensures.0, owner-small _ given.1 _ given.2),
+      omega (arith, c.owner-w.ensures.0, owner-small _ given.1 _ given.2),
       slot.ensures.2,
     )
 
-put_gap_requires : tie.Need-put-gap-requires invariant-loop decreases-loop
+put_gap_requires : tie.Need-put_gap-requires invariant-loop decreases-loop
 put_gap_requires c κs =
-    let loop = c.before.before.before.before in
-    (omega (arith, loop.loop.invariant.size, (start loop).requires.3), omega (arith, low c.before.before))
+    (omega (arith, c.loop-i.invariant.size, c.requires.3), omega (arith, low c.before.before.before))
 
-put_entry_requires : tie.Need-put-entry-requires invariant-loop decreases-loop
+put_entry_requires : tie.Need-put_entry-requires invariant-loop decreases-loop
 put_entry_requires c κs =
-    let entry = c.before.before.before.before.before in
-    let loop = entry.before.before.before in
-    (omega (arith, c.before.before.before.put-gap.auto.0, loop.loop.invariant.size, (start loop).requires.3), low entry.before, (stands entry).ranges)
+    (omega (arith, c.put_gap.auto.out, c.loop-i.invariant.size, c.requires.3), low c.before.before.before.before.before.before.before, (stands c.before.before.before.before.before).fits)
 
-add_result : tie.Need-overflow-add-result invariant-loop decreases-loop
-add_result c = omega (arith, low (at_slot c.before.before.before))
+add_result : tie.Need-overflow_add-result invariant-loop decreases-loop
+add_result c = omega (arith, low c.before.before.before.before.before.before.before.before.before.before.before.before.before)
 
-same_length : tie.Need-same-length invariant-loop decreases-loop
+same_length : tie.Need-shape_of-out-then-e-eq-MEMBER invariant-loop decreases-loop
 same_length c =
-    let stored = c.before.before.before in
-    omega (arith, (at_slot stored).before.before.loop.invariant.size, stored.before.before.put-entry.auto.0, stored.before.before.before.before.before.before.put-gap.auto.0)
+    omega (arith, c.loop-i.invariant.size, c.put_entry.auto.out, c.put_gap.auto.out)
 
-returns : tie.Need-returns invariant-loop decreases-loop
+returns : tie.Need-returns-then-e-eq-MEMBER invariant-loop decreases-loop
 returns c =
-    let stored = c.before.before.before in
-    let slot = at_slot stored in
-    left-done _ _ _ _ _ _ _ _ _ slot.before.loop-test.taken slot.before.before.loop.inv slot.slot_at.result slot.slot_at.ensures.0 _
-    (stands stored.before.before.before.before.before.before.before.before) stored.before.before.before.before.before.before.put-gap.ensures stored.before.before.put-entry.ensures
-    (eq-eqb _ _ c.before.if1.true)
+    left-done _ _ _ _ _ _ _ _ _ c.loop-i-test.true c.loop-i.invariant c.slot_at-s.result c.slot_at-s.ensures.0 _
+    (stands c.before.before.before.before.before.before.before.before.before.before.before) c.put_gap.ensures c.put_entry.ensures
+    (eq-eqb _ _ c.if-e-eq-MEMBER.true)
 
-add_k : tie.Need-overflow-add-k invariant-loop decreases-loop
-add_k c = omega (arith, low (at_slot c.before.before.before))
+add_k : tie.Need-overflow_add-k invariant-loop decreases-loop
+add_k c = omega (arith, low c.before.before.before.before.before.before.before.before.before.before.before.before.before)
 
-add_next_met : tie.Need-overflow-add-next-met invariant-loop decreases-loop
+add_next_met : tie.Need-overflow_add-i invariant-loop decreases-loop
 add_next_met c =
-    let loop = (at_slot c.before.before.before).before in
-    omega (arith, loop.loop-test.taken, few loop.before.before.before.before)
+    omega (arith, c.loop-i-test.true, few c.before.before.before.before.before.before.before.before.before.before.before.before.before.before.before.before.before.before)
 
-next_met_requires_2 : tie.Need-next-met-requires-2 invariant-loop decreases-loop
+next_met_requires_2 : tie.Need-next_met-i-requires-in-loop-i invariant-loop decreases-loop
 next_met_requires_2 c κs =
-    let loop = (at_slot c.before.before.before).before in
-    let given = (start loop.before).pre in
-    let used = loop.before.before.before.before in
-    (given.0, given.1, given.2, used.used.ensures.0, few used, omega (arith, loop.loop-test.taken))
+    let given = c.requires in
+    (given.0, given.1, given.2, c.used-n.ensures.0, few c.before.before.before.before.before.before.before.before.before.before.before.before.before.before.before.before.before.before, omega (arith, c.loop-i-test.true))
 
-loop_less : tie.Need-loop-smaller invariant-loop decreases-loop
-loop_less c = omega (arith, c.next-met2.ensures.0, c.next-met2.ensures.1, (at_slot c.before.before.before.before).before.loop-test.taken)
+loop_less : tie.Need-loop-i-smaller invariant-loop decreases-loop
+loop_less c = omega (arith, c.next_met-i-in-loop-i.ensures.0, c.next_met-i-in-loop-i.ensures.1, c.loop-i-test.true)
 
-loop_again : tie.Need-loop-preserved invariant-loop decreases-loop
+loop_again : tie.Need-loop-i-preserved invariant-loop decreases-loop
 loop_again c =
-    let stored = c.before.before.before.before in
-    let slot = at_slot stored in
-    let met = c.next-met2.ensures in
-    left_next _ _ _ _ _ _ _ _ _ slot.before.loop-test.taken slot.before.before.loop.inv slot.slot_at.result slot.slot_at.ensures.0 _
-    (stands stored.before.before.before.before.before.before.before.before) stored.before.before.before.before.before.before.put-gap.ensures stored.before.before.put-entry.ensures
-    (ne_eqb _ _ c.before.before.if1.false) (omega (arith, stored.before.before.put-entry.auto.0, stored.before.before.before.before.before.before.put-gap.auto.0)) _ met.1 met.2 met.3
+    let met = c.next_met-i-in-loop-i.ensures in
+    left_next _ _ _ _ _ _ _ _ _ c.loop-i-test.true c.loop-i.invariant c.slot_at-s.result c.slot_at-s.ensures.0 _
+    (stands c.before.before.before.before.before.before.before.before.before.before.before.before) c.put_gap.ensures c.put_entry.ensures
+    (ne_eqb _ _ c.if-e-eq-MEMBER.false) (omega (arith, c.put_entry.auto.out, c.put_gap.auto.out)) _ met.1 met.2 met.3
 
-levels_at_requires : tie.Need-levels-at-requires invariant-loop decreases-loop
-levels_at_requires c κs = ((start c.before).pre.0, few c.before.before.before.before)
+levels_at_requires : tie.Need-levels_at-levels-requires invariant-loop decreases-loop
+levels_at_requires c κs = (c.requires.0, few c.before.before.before.before)
 
-same_length_2 : tie.Need-same-length-2 invariant-loop decreases-loop
-same_length_2 c = c.before.before.before.loop.invariant.size
+same_length_2 : tie.Need-shape_of-out-then-levels-k invariant-loop decreases-loop
+same_length_2 c = c.loop-i.invariant.size
 
-returns_2 : tie.Need-returns-2 invariant-loop decreases-loop
-returns_2 c = left_none _ _ _ _ _ _ _ _ c.before.before.loop-test.false c.before.before.before.loop.invariant c.before.levels-at.ensures c.if2.true
+returns_2 : tie.Need-returns-then-levels-k invariant-loop decreases-loop
+returns_2 c = left_none _ _ _ _ _ _ _ _ c.loop-i-test.false c.loop-i.invariant c.levels_at-levels.ensures c.if-levels-k.true
 
-put_gap_requires_2 : tie.Need-put-gap-requires-2 invariant-loop decreases-loop
+put_gap_requires_2 : tie.Need-put_gap-requires-2 invariant-loop decreases-loop
 put_gap_requires_2 c κs =
-    let loop = c.before.before.before.before in
-    let used = loop.before.before.before in
-    (omega (arith, loop.loop.invariant.size, (start loop).requires.3), omega (arith, few used, c.before.before.levels-at.ensures, levels-low _ (group (start loop)) used.used.result used.used.ensures.0))
+    (omega (arith, c.loop-i.invariant.size, c.requires.3), omega (arith, few c.before.before.before.before.before.before.before, c.levels_at-levels.ensures, levels-low _ (group c.before.before.before.before.before.before.before.before.before.before) c.used-n.result c.used-n.ensures.0))
 
-same_length_3 : tie.Need-same-length-3 invariant-loop decreases-loop
-same_length_3 c = omega (arith, c.before.before.put-gap2.auto.0, c.before.before.before.before.before.before.before.loop.invariant.size)
+same_length_3 : tie.Need-shape_of-out invariant-loop decreases-loop
+same_length_3 c = omega (arith, c.put_gap-2.auto.out, c.loop-i.invariant.size)
 
-returns_3 : tie.Need-returns-3 invariant-loop decreases-loop
+returns_3 : tie.Need-returns invariant-loop decreases-loop
 returns_3 c =
-    let test = c.before.before.before.before in
-    left-levels _ _ _ _ _ _ _ _ test.before.before.loop-test.false test.before.before.before.loop.invariant test.before.levels-at.ensures test.if2.false _ c.before.before.put-gap2.ensures
+    left-levels _ _ _ _ _ _ _ _ c.loop-i-test.false c.loop-i.invariant c.levels_at-levels.ensures c.if-levels-k.false _ c.put_gap-2.ensures
 
 pub tell_slots_spec : {M : Type 1} → statement M
-tell_slots_spec = tie.close (tie.spec invariant-loop decreases-loop (λ c κs. c.before.before.requires.0) (λ c. omega (arith, c.used.ensures.1))
-    (λ c κs. (c.before.before.before.requires.0, c.before.before.before.requires.2)) next_met_requires loop_holds slot_at_requires entry_for_requires put_gap_requires
+tell_slots_spec = tie.close (tie.spec invariant-loop decreases-loop (λ c κs. c.requires.0) (λ c. omega (arith, c.used-n.ensures.1))
+    (λ c κs. (c.requires.0, c.requires.2)) next_met_requires loop_holds slot_at_requires entry_for_requires put_gap_requires
     put_entry_requires add_result same_length returns add_k add_next_met next_met_requires_2 loop_less loop_again levels_at_requires same_length_2 returns_2
     put_gap_requires_2 same_length_3 returns_3)

@@ -6,7 +6,6 @@ use mathlib.Core.Bool.{true}
 use Prim.Native.Nat.{ℕ, ◌<◌}
 use native.Mathlib.Omega.{arith}
 use borrow.Author.Rules.{rules}
-use borrow.Author.Tests.{not-true, not-false}
 use Rattle.model.specs.Device.{Device, group_of}
 use Rattle.model.specs.State.{group_at}
 use Rattle.model.specs.Sound.{sound_group}
@@ -23,71 +22,68 @@ use Rattle.lookup.proofs.why.why.Statement.{statement}
 use Rattle.lookup.proofs.why.why.Tie as tie
 
 -- where the state is opened: its bytes, the page, the device whose numbers it has
-abbrev bytes : tie.After-known-told → List ℕ
-bytes c = c.before.before.before.before.before.before.args.state.now
+abbrev bytes : tie.In-Device → List ℕ
+bytes c = c.args.state.now
 
-abbrev page : tie.After-known-told → ℕ
-page c = c.before.before.before.before.before.before.args.page
+abbrev page : tie.In-Device → ℕ
+page c = c.args.page
 
-abbrev held : tie.After-known-told → Device
-held c = numbers_of c.before.opened.given.0.0
+abbrev held : tie.In-Device → Device
+held c = numbers_of c.in-Device.d
 
 -- what that says, and the tests behind it
-passed : (c : tie.After-known-told) → (first_refusal (opening (read_state (bytes c))) ≡ none) × ((read_state (bytes c)).device ≡ held c)
-passed c = passed_all _ (read_state (bytes c)).device _ c.before.before.before.open-state.ensures _ c.before.opened.given.1
+passed : (c : tie.In-Device) → (first_refusal (opening (read_state (bytes c))) ≡ none) × ((read_state (bytes c)).device ≡ held c)
+passed c = passed_all _ (read_state (bytes c)).device _ c.open_state-opened.ensures _ c.in-Device.is
 
-shape : (c : tie.After-known-told) → Shaped (held c) (read_state (bytes c))
+shape : (c : tie.In-Device) → Shaped (held c) (read_state (bytes c))
 shape c = opened-shape (read_state (bytes c)) (held c) (passed c).0 (passed c).1
 
-inside : (c : tie.Else2) → page c.before.before.before < (held c.before.before.before).N
-inside c = omega (arith, c.if2.false)
+inside : (c : tie.Else-d-page) → page c.before.before.before < (held c.before.before.before).N
+inside c = omega (arith, c.if-d-page.false)
 
-abbrev opened : tie.Else3 → tie.After-known-told
+abbrev opened : tie.Else-not-group_sound → tie.In-Device
 opened c = c.before.before.before.before.before
 
-sound : (c : tie.Else3) → sound_group (held (opened c)).N (group_of (page (opened c))) (group_at (read_state (bytes (opened c))) (group_of (page (opened c)))) ≡ true
-sound c = sym c.before.group-sound.ensures ∙ not-false c.before.group-sound.result c.if3.false
+sound : (c : tie.Else-not-group_sound) → sound_group (held c.before.before.before.before.before).N (group_of (page c.before.before.before.before.before)) (group_at (read_state (bytes c.before.before.before.before.before)) (group_of (page c.before.before.before.before.before))) ≡ true
+sound c = sym c.group_sound.ensures ∙ c.if-not-group_sound.false
 
-returns : tie.Need-returns
+returns : tie.Need-returns-in-Refused
 unfolding why_answer
-returns c = λ spare. why-closed _ spare _ _ _ (refused_first _ _ _ c.before.before.before.open-state.ensures _ c.before.opened2.given.1)
+returns c = λ spare. why-closed _ spare _ _ _ (refused_first _ _ _ c.open_state-opened.ensures _ c.in-Refused.is)
 
-returns_2 : tie.Need-returns-2
+returns_2 : tie.Need-returns-then-out-ne-WHY
 unfolding why_answer refusal_of
-returns_2 c = λ spare. why_length_lem _ spare _ _ _ (passed c.before) c.if1.true
+returns_2 c = λ spare. why_length_lem _ spare _ _ _ (passed c.before) c.if-out-ne-WHY.true
 
-returns_3 : tie.Need-returns-3
+returns_3 : tie.Need-returns-then-d-page
 unfolding why_answer refusal_of
-returns_3 c = λ spare. why_range _ spare _ _ _ (passed c.before.before.before) c.before.before.if1.false (omega (arith, c.if2.true))
+returns_3 c = λ spare. why_range _ spare _ _ _ (passed c.before.before.before) c.if-out-ne-WHY.false (omega (arith, c.if-d-page.true))
 
-group_sound_requires : tie.Need-group-sound-requires
+group_sound_requires : tie.Need-group_sound-requires
 group_sound_requires c κs = (shape c.before.before.before, group-inside (held c.before.before.before) (page c.before.before.before) (inside c))
 
-returns_4 : tie.Need-returns-4
+returns_4 : tie.Need-returns-then-not-group_sound
 unfolding why_answer refusal_of
 returns_4 c =
-    λ spare. why_unsound _ spare _ _ _ (passed c.before.before.before.before.before) c.before.before.before.before.if1.false (inside c.before.before) (sym c.before.group-sound.ensures ∙ not-true c.before.group-sound.result c.if3.true)
+    λ spare. why_unsound _ spare _ _ _ (passed c.before.before.before.before.before) c.if-out-ne-WHY.false (inside c.before.before) (sym c.group_sound.ensures ∙ c.if-not-group_sound.true)
 
-is_marked_requires : tie.Need-is-marked-requires
-is_marked_requires c κs = (shape (opened c), inside c.before.before)
+is_marked_requires : tie.Need-is_marked-requires
+is_marked_requires c κs = (shape c.before.before.before.before.before, inside c.before.before)
 
-returns_5 : tie.Need-returns-5
+returns_5 : tie.Need-returns-then-is_marked
 unfolding why_answer
 returns_5 c =
-    let k = c.before.before in
-    λ spare. why-marked _ spare _ _ _ (passed (opened k)) k.before.before.before.before.if1.false (inside k.before.before) (sound k) (sym c.before.is-marked.ensures ∙ c.if4.true)
+    λ spare. why-marked _ spare _ _ _ (passed c.before.before.before.before.before.before.before) c.if-out-ne-WHY.false (inside c.before.before.before.before) (sound c.before.before) (sym c.is_marked.ensures ∙ c.if-is_marked.true)
 
-tell_group_requires : tie.Need-tell-group-requires
+tell_group_requires : tie.Need-tell_group-n-requires
 tell_group_requires c κs =
-    let k = c.before.before.before in
-    (shape (opened k), inside k.before.before, sound k, k.before.before.before.before.if1.false)
+    (shape c.before.before.before.before.before.before.before.before, inside c.before.before.before.before.before, sound c.before.before.before, c.if-out-ne-WHY.false)
 
-returns_6 : tie.Need-returns-6
+returns_6 : tie.Need-returns
 unfolding why_answer
 returns_6 c =
-    let k = c.before.before.before.before.before.before in
-    let done = c.before.before.tell-group.ensures in
-    λ spare. why_done_lem _ spare _ _ _ (passed (opened k)) k.before.before.before.before.if1.false (inside k.before.before) (sound k) (sym c.before.before.before.before.before.is-marked.ensures ∙ c.before.before.before.before.if4.false) _ _ done.0 done.1
+    let done = c.tell_group-n.ensures in
+    λ spare. why_done_lem _ spare _ _ _ (passed c.before.before.before.before.before.before.before.before.before.before.before) c.if-out-ne-WHY.false (inside c.before.before.before.before.before.before.before.before) (sound c.before.before.before.before.before.before) (sym c.is_marked.ensures ∙ c.if-is_marked.false) _ _ done.0 done.1
 
 pub why_spec : {M : Type 1} → statement M
 why_spec = tie.close (tie.spec (λ c κs. search rules) (λ c. search rules) (λ c. search rules) returns returns_2 returns_3

@@ -4,7 +4,6 @@ use mathlib.Core.Option.{none}
 use mathlib.Core.Bool.{not}
 use Prim.Native.Nat.{ℕ}
 use borrow.Author.Rules.{rules}
-use borrow.Author.Tests.{not-true, not-false}
 use Rattle.model.specs.Device.{Device}
 use Rattle.calls.specs.Refusals.{first_refusal}
 use Rattle.calls.proofs.Refusing.{ClearTo, none_some, front-refuses, refuses_at, is_clear, right-length, wrong_length_lem}
@@ -21,77 +20,63 @@ use Rattle.plaincalls.proofs.Collecting.{rest, to_rest}
 use Rattle.plaincalls.proofs.collect.check.Statement.{statement}
 use Rattle.plaincalls.proofs.collect.check.Tie as tie
 
--- where the state is opened: what is lent, and the device whose numbers it has
-abbrev start : tie.After-known-told → tie.Start
-start c = c.before.before.before.before.before.before.before.before
+abbrev s : tie.In-Device → Table
+s c = read_table c.args.state.now
 
-abbrev s : tie.After-known-told → Table
-s c = read_table (start c).args.state.now
-
-abbrev held : tie.After-known-told → Device
-held c = numbers_of c.before.opened.given.0.0
+abbrev held : tie.In-Device → Device
+held c = numbers_of c.in-Device.d
 
 -- what that says: its shape, and which checks are left
-passed : (c : tie.After-known-told) → (first_refusal (opening (s c)) ≡ none) × ((s c).device ≡ held c)
-passed c = passed_all _ (s c).device _ c.before.before.before.open-table.ensures _ c.before.opened.given.1
+passed : (c : tie.In-Device) → (first_refusal (opening (s c)) ≡ none) × ((s c).device ≡ held c)
+passed c = passed_all _ (s c).device _ c.open_table-opened.ensures _ c.in-Device.is
 
-left : (c : tie.After-known-told) → first_refusal (admit_checks (start c).args.plan.now (start c).args.erased.now (s c)) ≡ first_refusal (rest (held c) (s c) (start c).args.plan.now (start c).args.erased.now)
-left c = to_rest (start c).args.state.now _ _ (held c) (passed c)
-
--- the place where it was opened, from behind each test
-abbrev opened₁ : tie.Else1 → tie.After-known-told
-opened₁ c = c.before.before
-
-abbrev opened₂ : tie.Else2 → tie.After-known-told
-opened₂ c = opened₁ c.before.before
+left : (c : tie.In-Device) → first_refusal (admit_checks c.args.plan.now c.args.erased.now (s c)) ≡ first_refusal (rest (held c) (s c) c.args.plan.now c.args.erased.now)
+left c = to_rest c.args.state.now _ _ (held c) (passed c)
 
 -- the checks that were passed there
-abbrev ClearTo_at : ℕ → tie.After-known-told → Type 0
-ClearTo_at n c = ClearTo n (rest (held c) (s c) (start c).args.plan.now (start c).args.erased.now)
+abbrev ClearTo_at : ℕ → tie.In-Device → Type 0
+ClearTo_at n c = ClearTo n (rest (held c) (s c) c.args.plan.now c.args.erased.now)
 
-passed₁ : (c : tie.Else1) → ClearTo_at 1 (opened₁ c)
-passed₁ c = (right-length _ _ c.if1.false, tt)
+passed₁ : (c : tie.Else-plan-d) → ClearTo_at 1 c.before.before
+passed₁ c = (right-length _ _ c.if-plan-d.false, tt)
 
-passed₂ : (c : tie.Else2) → ClearTo_at 2 (opened₂ c)
-passed₂ c = ((passed₁ c.before.before).0, (right-length _ _ c.if2.false, tt))
+passed₂ : (c : tie.Else-erased-d) → ClearTo_at 2 c.before.before.before.before
+passed₂ c = ((passed₁ c.before.before).0, (right-length _ _ c.if-erased-d.false, tt))
 
-returns : tie.Need-returns
+returns : tie.Need-returns-in-Refused
 unfolding verdict_of
 returns c =
-    let refused = front-refuses (opening (read_table c.before.before.before.before.before.before.before.before.args.state.now)) _
-    (refused_first _ _ _ c.before.before.before.open-table.ensures _ c.before.opened2.given.1) in
+    let refused = front-refuses (opening (read_table c.args.state.now)) _
+    (refused_first _ _ _ c.open_table-opened.ensures _ c.in-Refused.is) in
     (says-refused _ _ refused, λ e. none_some (sym e ∙ refused))
 
-returns_2 : tie.Need-returns-2
+returns_2 : tie.Need-returns-then-plan-d
 unfolding verdict_of refusal_of
 returns_2 c =
-    let refused = left c.before.before ∙ refuses_at 0 _ refl tt (wrong_length_lem _ _ c.if1.true) in
+    let refused = left c.before.before ∙ refuses_at 0 _ refl tt (wrong_length_lem _ _ c.if-plan-d.true) in
     (says-refused _ _ refused, λ e. none_some (sym e ∙ refused))
 
-returns_3 : tie.Need-returns-3
+returns_3 : tie.Need-returns-then-erased-d
 unfolding verdict_of refusal_of
 returns_3 c =
-    let k = c.before.before in
-    let refused = left (opened₁ k) ∙ refuses_at 1 _ refl (passed₁ k) (wrong_length_lem _ _ c.if2.true) in
+    let refused = left c.before.before.before.before ∙ refuses_at 1 _ refl (passed₁ c.before.before) (wrong_length_lem _ _ c.if-erased-d.true) in
     (says-refused _ _ refused, λ e. none_some (sym e ∙ refused))
 
-returns_4 : tie.Need-returns-4
+returns_4 : tie.Need-returns-then-not-sound
 unfolding verdict_of refusal_of
 returns_4 c =
-    let k = c.before.before.before.before.before in
-    let made = c.before.before.before.sound in
-    let refused = left (opened₂ k) ∙ refuses_at 2 _ refl (passed₂ k) (ap not (sym made.ensures.0 ∙ not-true made.result c.if3.true)) in
+    let made = c.sound in
+    let refused = left c.before.before.before.before.before.before.before.before.before ∙ refuses_at 2 _ refl (passed₂ c.before.before.before.before.before) (ap not (sym made.ensures.0 ∙ c.if-not-sound.true)) in
     (says-refused _ _ refused, λ e. none_some (sym e ∙ refused))
 
-returns_5 : tie.Need-returns-5
+returns_5 : tie.Need-returns
 unfolding verdict_of
 returns_5 c =
-    let k = c.before.before.before.before.before in
-    let made = c.before.before.before.sound in
-    let p = passed₂ k in
-    let so = not-false made.result c.if3.false in
-    (says-passed _ _ (left (opened₂ k) ∙ is_clear _ (p.0, (p.1.0, (ap not (sym made.ensures.0 ∙ so), tt)))) (sym (passed (opened₂ k)).1), λ _. made.ensures.1 so)
+    let made = c.sound in
+    let p = passed₂ c.before.before.before.before.before in
+    let so = c.if-not-sound.false in
+    (says-passed _ _ (left c.before.before.before.before.before.before.before.before.before ∙ is_clear _ (p.0, (p.1.0, (ap not (sym made.ensures.0 ∙ so), tt)))) (sym (passed c.before.before.before.before.before.before.before.before.before).1), λ _. made.ensures.1 so)
 
 pub check_spec : {M : Type 1} → statement M
 check_spec = tie.close (tie.spec (λ c κs. search rules) (λ c. search rules) (λ c. search rules) returns (λ c. search rules) returns_2 (λ c. search rules) returns_3
-    (λ c κs. let k = opened₂ c.before in opened-shape (s k) (held k) (passed k).0 (passed k).1) (λ c. search rules) returns_4 (λ c. search rules) returns_5)
+    (λ c κs. opened-shape (s c.before.before.before.before.before) (held c.before.before.before.before.before) (passed c.before.before.before.before.before).0 (passed c.before.before.before.before.before).1) (λ c. search rules) returns_4 (λ c. search rules) returns_5)

@@ -27,17 +27,15 @@ long c = ap length c.requires.2 ∙ length-tally _ (s c).device (s c).counts ∙
 chosen : (c : tie.Start) → Chooses c.args.tally.now c.args.d.b (victims (s c))
 chosen c = subst (λ (l : List ℕ). Chooses l c.args.d.b (victims (s c))) (sym c.requires.2) (chooses _ _ c.requires.0)
 
-take_blocks_requires : tie.Need-take-blocks-requires
+take_blocks_requires : tie.Need-take_blocks-requires
 take_blocks_requires c κs =
-    let at = c.before.before.before.before.before in
-    let most = limits _ at.requires.0.shape.limits in
-    (omega (arith, long at, most.most_M), omega (arith, long at, at.requires.1), most.most_B)
+    let most = limits _ c.requires.0.shape.limits in
+    (omega (arith, long c.before.before.before.before.before, most.most_M), omega (arith, long c.before.before.before.before.before, c.requires.1), most.most_B)
 
 returns : tie.Need-returns
 returns c =
-    let at = c.before.before.before.before.before.before.before.before in
-    let free = c.before.before.before.before.free-count.ensures in
-    c.before.before.take-blocks.ensures _ _ (chosen at) (free ∙ ap (λ (cs : List ℕ). length (free_blocks 0 cs)) (sym (counts_are _ _ at.requires.0.shape)))
+    let free = c.free_count-free.ensures in
+    c.take_blocks.ensures _ _ (chosen c.before.before.before.before.before.before.before.before) (free ∙ ap (λ (cs : List ℕ). length (free_blocks 0 cs)) (sym (counts_are _ _ c.requires.0.shape)))
 
 pub take_spec : {M : Type 1} → statement M
-take_spec = tie.close (tie.spec (λ c κs. front_in _ _ c.before.before.before.requires.0.shape) take_blocks_requires (λ c. search rules) returns)
+take_spec = tie.close (tie.spec (λ c κs. front_in _ _ c.requires.0.shape) take_blocks_requires (λ c. search rules) returns)

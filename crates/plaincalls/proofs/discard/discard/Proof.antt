@@ -15,30 +15,25 @@ use Rattle.plaincalls.proofs.Discarding.{discard-refused, discard_done_lem}
 use Rattle.plaincalls.proofs.discard.discard.Statement.{statement}
 use Rattle.plaincalls.proofs.discard.discard.Tie as tie
 
--- where the page passed its checks: the state, the page
-abbrev start : tie.After-known-told → tie.Start
-start c = c.before.before.before.before.before.before
-
-abbrev t : tie.After-known-told → Table
-t c = read_table (start c).args.state.now
+abbrev t : tie.In-Device → Table
+t c = read_table c.args.state.now
 
 -- what that says
-passed : (c : tie.After-known-told) → (first_refusal (entry_checks (start c).args.page (t c)) ≡ none) × ((t c).device ≡ numbers_of c.before.opened.given.0.0)
-passed c = passed_all _ (t c).device _ c.before.before.before.open-page.ensures _ c.before.opened.given.1
+passed : (c : tie.In-Device) → (first_refusal (entry_checks c.args.page (t c)) ≡ none) × ((t c).device ≡ numbers_of c.in-Device.d)
+passed c = passed_all _ (t c).device _ c.open_page-opened.ensures _ c.in-Device.is
 
-returns : tie.Need-returns
+returns : tie.Need-returns-in-Refused
 unfolding discard_answer
-returns c = discard-refused _ _ _ (refused_first _ _ _ c.before.before.before.open-page.ensures _ c.before.opened2.given.1)
+returns c = discard-refused _ _ _ (refused_first _ _ _ c.open_page-opened.ensures _ c.in-Refused.is)
 
-set_entry_requires : tie.Need-set-entry-requires
+set_entry_requires : tie.Need-set_entry-requires
 set_entry_requires c κs =
-    let k = c.before in
-    let p = opened-page (t k) (start k).args.page _ (passed k).0 (passed k).1 in
+    let p = opened-page (t c.before) c.args.page _ (passed c.before).0 (passed c.before).1 in
     (p.0, omega (arith, p.1))
 
-returns_2 : tie.Need-returns-2
+returns_2 : tie.Need-returns
 unfolding discard_answer no_page
-returns_2 c = discard_done_lem _ _ (passed c.before.before.before.before).0 _ c.before.before.set-entry.ensures
+returns_2 c = discard_done_lem _ _ (passed c.before.before.before.before).0 _ c.set_entry.ensures
 
 pub discard_spec : {M : Type 1} → statement M
 discard_spec = tie.close (tie.spec (λ c κs. search rules) (λ c. search rules) (λ c. search rules) (λ c. search rules) returns

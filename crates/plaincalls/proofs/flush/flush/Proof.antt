@@ -20,55 +20,42 @@ use Rattle.plaincalls.proofs.Flushing.{flush-refused, passed, lowest-inside, flu
 use Rattle.plaincalls.proofs.flush.flush.Statement.{statement}
 use Rattle.plaincalls.proofs.flush.flush.Tie as tie
 
--- where nothing is refused: what is lent, and the device whose numbers the state has
-abbrev start : tie.After-known-told → tie.Start
-start c = c.before.before.before.before.before.before.before.before.before
+abbrev t : tie.In-Device → Table
+t c = read_table c.args.state.now
 
-abbrev t : tie.After-known-told → Table
-t c = read_table (start c).args.state.now
-
-abbrev held : tie.After-known-told → Device
-held c = numbers_of c.before.opened.given.0.0
+abbrev held : tie.In-Device → Device
+held c = numbers_of c.in-Device.d
 
 -- what the check gives
-clear : (c : tie.After-known-told) → (first_refusal (checks_of (flush (start c).args.batch.now (start c).args.plan.now) (t c)) ≡ none) × ((t c).device ≡ held c)
-clear c = passed_all _ (t c).device _ c.before.before.before.check.ensures _ c.before.opened.given.1
+clear : (c : tie.In-Device) → (first_refusal (checks_of (flush c.args.batch.now c.args.plan.now) (t c)) ≡ none) × ((t c).device ≡ held c)
+clear c = passed_all _ (t c).device _ c.check-opened.ensures _ c.in-Device.is
 
-all_passed : (c : tie.After-known-told) → Admitted (held c) (t c) (start c).args.batch.now (start c).args.plan.now
+all_passed : (c : tie.In-Device) → Admitted (held c) (t c) c.args.batch.now c.args.plan.now
 all_passed c = passed _ _ _ _ (clear c).0 (clear c).1
 
--- the block that is taken is the state's lowest-numbered free one, and one of the device's
-abbrev opened : tie.After-lowest-free → tie.After-known-told
-opened c = c.before.before
+lowest : (c : tie.After-lowest_free-k) → c.lowest_free-k.result ≡ lowest_in (t c.before).counts
+lowest c = c.lowest_free-k.ensures ∙ ap lowest_in (sym (counts_are _ _ (all_passed c.before).shape))
 
-lowest : (c : tie.After-lowest-free) → c.lowest-free.result ≡ lowest_in (t (opened c)).counts
-lowest c = c.lowest-free.ensures ∙ ap lowest_in (sym (counts_are _ _ (all_passed (opened c)).shape))
+inside : (c : tie.After-lowest_free-k) → c.lowest_free-k.result < (held c.before).M
+inside c = lowest-inside _ _ _ _ (clear c.before).0 (clear c.before).1 _ (lowest c)
 
-inside : (c : tie.After-lowest-free) → c.lowest-free.result < (held (opened c)).M
-inside c = lowest-inside _ _ _ _ (clear (opened c)).0 (clear (opened c)).1 _ (lowest c)
-
--- the place where it was found, from where the block is written
-abbrev found : tie.After-struct-known → tie.After-lowest-free
-found c = c.before.before.before.before.before.before.before.before
-
-returns : tie.Need-returns
+returns : tie.Need-returns-in-Refused
 unfolding flush_answer
-returns c = flush-refused _ _ _ _ (refused_first _ _ _ c.before.before.before.check.ensures _ c.before.opened2.given.1)
+returns c = flush-refused _ _ _ _ (refused_first _ _ _ c.check-opened.ensures _ c.in-Refused.is)
 
-lowest_free_requires : tie.Need-lowest-free-requires
-lowest_free_requires c κs = front_in _ _ (all_passed c.before).shape
+lowest_free_requires : tie.Need-lowest_free-k-requires
+lowest_free_requires c κs = front_in _ _ (all_passed c).shape
 
-write_batch_requires : tie.Need-write-batch-requires
-write_batch_requires c κs = let k = c.before.before in (all_passed (opened k), inside k)
+write_batch_requires : tie.Need-write_batch-n-requires
+write_batch_requires c κs = (all_passed c.before.before.before, inside c.before.before)
 
-mul_t21 : tie.Need-overflow-mul-t21
-mul_t21 c = let k = found c in omega (arith, block-end (held (opened k)) _ (inside k), (small _ (all_passed (opened k)).shape.limits).all)
+mul_t21 : tie.Need-overflow_mul-result
+mul_t21 c = omega (arith, block-end (held c.before.before.before.before.before.before.before.before.before) _ (inside c.before.before.before.before.before.before.before.before), (small _ (all_passed c.before.before.before.before.before.before.before.before.before).shape.limits).all)
 
-returns_2 : tie.Need-returns-2
+returns_2 : tie.Need-returns
 unfolding flush_answer
 returns_2 c =
-    let k = found c in
-    flush-written _ _ _ _ (clear (opened k)).0 (clear (opened k)).1 _ _ _ _ (lowest k) c.before.before.before.before.before.write-batch.ensures
+    flush-written _ _ _ _ (clear c.before.before.before.before.before.before.before.before.before).0 (clear c.before.before.before.before.before.before.before.before.before).1 _ _ _ _ (lowest c.before.before.before.before.before.before.before.before) c.write_batch-n.ensures
 
 pub flush_spec : {M : Type 1} → statement M
 flush_spec = tie.close (tie.spec (λ c κs. search rules) (λ c. search rules) (λ c. search rules) (λ c. search rules)

@@ -10,22 +10,18 @@ use Rattle.plaincalls.proofs.Sorted.{sorted-taken}
 use Rattle.plaincalls.proofs.flush.write_batch.Statement.{statement}
 use Rattle.plaincalls.proofs.flush.write_batch.Tie as tie
 
-abbrev start : tie.Then1 → tie.Start
-start c = c.before.before.before.before.before
-
-rises : (c : tie.Then1) → ascending (start c).args.batch.now ≡ true
-rises c = sym c.before.ascends.ensures ∙ c.if1.true
+rises : (c : tie.Then-ascends) → ascending c.args.batch.now ≡ true
+rises c = sym c.ascends.ensures ∙ c.if-ascends.true
 
 number_requires : tie.Need-number-requires
 number_requires c κs =
-    let p = (start c.before).requires.0 in
+    let p = c.requires.0 in
     (omega (arith, p.fits.short, (limits _ p.shape.limits).most_B), omega (arith, p.fits.planned, p.fits.short))
 
-returns : tie.Need-returns
+returns : tie.Need-returns-then-ascends
 returns c =
-    let numbered = c.before.before.before.before.before.before in
-    let h = rises numbered.before.before in
-    sorted-taken _ _ (ascending-logicals _ h) _ _ _ _ _ _ c.before.before.write-block.ensures (ascending-length _ h) (numbered.number.ensures ∙ ap (store _ 0) (ascending-sources _ h))
+    let h = rises c.before.before.before.before.before.before.before.before in
+    sorted-taken _ _ (ascending-logicals _ h) _ _ _ _ _ _ c.write_block.ensures (ascending-length _ h) (c.number.ensures ∙ ap (store _ 0) (ascending-sources _ h))
 
 pub write_batch_spec : {M : Type 1} → statement M
 write_batch_spec = tie.close (tie.spec (λ c κs. search rules) number_requires (λ c κs. search rules) (λ c. search rules)

@@ -15,57 +15,43 @@ use Rattle.plaincalls.proofs.Sorted.{sorted-fits, sorted-taken}
 use Rattle.plaincalls.proofs.flush.write_sorted.Statement.{statement}
 use Rattle.plaincalls.proofs.flush.write_sorted.Tie as tie
 
-abbrev start : tie.After-sort-any-arg → tie.Start
-start c = c.before.before.before.before.before
-
-abbrev begin : tie.After-sort-any → tie.Start
-begin c = start c.before
-
-abbrev ready : tie.After-pages3 → tie.After-sort-any
-ready c = c.before.before.before.before.before
-
-abbrev written : tie.After-slice-known4 → tie.After-write-block
-written c = c.before.before
-
 -- the batch fits the array
 few : (c : tie.Start) → length c.args.batch.now ≤ 256
 few c = omega (arith, c.requires.0.fits.short, (limits _ c.requires.0.shape.limits).most_B)
 
 -- the front of the array
-long : (c : tie.After-sort-any) → (c.sort-any.result ≤ 256) × (length c.sort-any.new.1.0 ≡ 256)
-long c = (omega (arith, c.sort-any.ensures.0, sorted-length (begin c).args.batch.now, few (begin c)), c.sort-any.auto.1.0)
+long : (c : tie.After-sort_any-n) → (c.sort_any-n.result ≤ 256) × (length c.sort_any-n.new.pages ≡ 256)
+long c = (omega (arith, c.sort_any-n.ensures.0, sorted-length c.args.batch.now, few c.before.before.before.before.before.before), c.sort_any-n.auto.pages)
 
-named : (c : tie.After-sort-any) → take c.sort-any.result c.sort-any.new.1.0 ≡ logicals (sorted (begin c).args.batch.now)
+named : (c : tie.After-sort_any-n) → take c.sort_any-n.result c.sort_any-n.new.pages ≡ logicals (sorted c.args.batch.now)
 named c =
-    let count = logicals-length (sorted (begin c).args.batch.now) in
-    front _ _ _ _ c.sort-any.ensures.1.0 (c.sort-any.ensures.0 ∙ sym count) (omega (arith, (long c).0, c.sort-any.ensures.0, count))
+    let count = logicals-length (sorted c.args.batch.now) in
+    front _ _ _ _ c.sort_any-n.ensures.1.0 (c.sort_any-n.ensures.0 ∙ sym count) (omega (arith, (long c).0, c.sort_any-n.ensures.0, count))
 
-sort_any_requires : tie.Need-sort-any-requires
+sort_any_requires : tie.Need-sort_any-n-requires
 sort_any_requires c κs =
-    let at = start c in
-    let p = at.pre.0 in (
-      few at,
+    let p = c.requires.0 in (
+      few c.before.before.before.before.before,
       below_more _ _ _ (omega (arith, (small _ p.shape.limits).logical)) p.fits.logical,
-      few at,
+      few c.before.before.before.before.before,
       omega (arith, p.fits.planned, p.fits.short),
     )
 
-slice_aggregate_write_block : tie.Need-slice-aggregate-write-block
-slice_aggregate_write_block c = sym (length-take-le _ (ready c).sort-any.new.1.0 (omega (arith, long (ready c))))
+slice_aggregate_write_block : tie.Need-slice_bounds-write_block-end
+slice_aggregate_write_block c = sym (length-take-le _ c.sort_any-n.new.pages (omega (arith, long c.before.before.before.before.before)))
 
-write_block_requires : tie.Need-write-block-requires
+write_block_requires : tie.Need-write_block-requires
 write_block_requires c κs =
-    let pre = (begin (ready c)).requires in
-    let f = sorted-fits _ _ (named (ready c)) _ _ pre.0.fits in
+    let pre = c.requires in
+    let f = sorted-fits _ _ (named c.before.before.before.before.before) _ _ pre.0.fits in
     (pre.0.shape, f.0, f.1, pre.1)
 
 returns : tie.Need-returns
 returns c =
-    let at_sort = ready (written c).before in
-    let made = at_sort.sort-any.ensures in
-    sorted-taken _ _ (named at_sort) _ _ _ _ _ _ (written c).write-block.ensures made.0 made.1.1
+    let made = c.sort_any-n.ensures in
+    sorted-taken _ _ (named c.before.before.before.before.before.before.before.before) _ _ _ _ _ _ c.write_block.ensures made.0 made.1.1
 
 pub write_sorted_spec : {M : Type 1} → statement M
 write_sorted_spec = tie.close (tie.spec (λ c. search rules) sort_any_requires
     (λ c. omega (arith, long c.before.before.before.before)) slice_aggregate_write_block write_block_requires
-    (λ c. omega (arith, long (ready (written c).before))) (λ c. search rules) (λ c. search rules) returns)
+    (λ c. omega (arith, long c.before.before.before.before.before.before.before.before)) (λ c. search rules) (λ c. search rules) returns)

@@ -14,37 +14,34 @@ use Rattle.plaincalls.proofs.Filling.{entries}
 use Rattle.plaincalls.proofs.format.clear_entries.Statement.{statement}
 use Rattle.plaincalls.proofs.format.clear_entries.Tie as tie
 
-abbrev invariant-loop : tie.invariant-loop
+abbrev invariant-loop : tie.invariant-loop-x
 invariant-loop state₀ d n x₀ state x = (x ≤ d.n) × (length state ≡ length state₀) × Shaped (numbers_of d) (read_table state) × Filled no_page entries (read_table state₀) x (read_table state)
 
-abbrev decreases-loop : tie.decreases-loop
+abbrev decreases-loop : tie.decreases-loop-x
 decreases-loop state₀ d n x₀ state x = d.n - x
 
-abbrev start : tie.After-slice-known2 invariant-loop decreases-loop → tie.Start invariant-loop decreases-loop
-start c = c.before.before.before.before.before.before.before
+loop_holds : tie.Need-loop-x-init invariant-loop decreases-loop
+loop_holds c = (omega arith, refl, c.requires, fill_none no_page entries _ _ (length-entries _ _ c.requires))
 
-loop_holds : tie.Need-loop-init invariant-loop decreases-loop
-loop_holds c = (omega arith, refl, c.before.requires, fill_none no_page entries _ _ (length-entries _ _ c.before.requires))
+set_entry_requires : tie.Need-set_entry-requires invariant-loop decreases-loop
+set_entry_requires c κs = (c.loop-x.invariant.2, c.loop-x-test.true)
 
-set_entry_requires : tie.Need-set-entry-requires invariant-loop decreases-loop
-set_entry_requires c κs = (c.before.before.loop.invariant.2, c.before.loop-test.true)
+add_x : tie.Need-overflow_add-x invariant-loop decreases-loop
+add_x c = omega (arith, (small _ c.requires.limits).logical)
 
-add_x : tie.Need-overflow-add-x invariant-loop decreases-loop
-add_x c = omega (arith, (small _ (start c).requires.limits).logical)
-
-loop_again : tie.Need-loop-preserved invariant-loop decreases-loop
+loop_again : tie.Need-loop-x-preserved invariant-loop decreases-loop
 unfolding no_page
 loop_again c =
-    let turn = c.before.before.before.before.before.loop in
-    let made = c.before.before.set-entry in (
+    let turn = c.loop-x in
+    let made = c.set_entry in (
       omega arith,
-      omega (arith, made.auto.0),
+      omega (arith, made.auto.state),
       rw made.ensures (shaped-entries _ _ _ turn.invariant.2),
-      fill_next no_page entries _ _ (length-entries _ _ (start c).requires) _ _ _ turn.invariant.3 c.before.before.before.before.loop-test.true made.ensures,
+      fill_next no_page entries _ _ (length-entries _ _ c.requires) _ _ _ turn.invariant.3 c.loop-x-test.true made.ensures,
     )
 
 returns : tie.Need-returns invariant-loop decreases-loop
-returns c = fill_all no_page entries _ _ (length-entries _ _ c.before.before.before.requires) _ _ c.before.loop.invariant.3 (omega arith)
+returns c = fill_all no_page entries _ _ (length-entries _ _ c.requires) _ _ c.loop-x.invariant.3 (omega arith)
 
 pub clear_entries_spec : {M : Type 1} → statement M
 clear_entries_spec = tie.close (tie.spec invariant-loop decreases-loop loop_holds set_entry_requires add_x (λ c. omega arith) loop_again

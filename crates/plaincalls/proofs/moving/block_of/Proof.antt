@@ -7,7 +7,7 @@ use Rattle.plaincalls.proofs.Reciprocal.{reciprocal_divides}
 use Rattle.plaincalls.proofs.moving.block_of.Statement.{statement}
 use Rattle.plaincalls.proofs.moving.block_of.Tie as tie
 
-mul_p : tie.Need-overflow-mul-p
+mul_p : tie.Need-overflow_mul-p
 mul_p c = omega (arith, mul-le-mul c.requires.1 c.requires.0)
 
 returns : tie.Need-returns

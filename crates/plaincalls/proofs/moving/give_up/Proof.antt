@@ -6,30 +6,27 @@ use lib.Dec.{ltb}
 use lib.ListN.{length, get_or, drop, length-set}
 use borrow.Author.Tests.{ltb-true}
 use Rattle.calls.specs.PageMap.{clear_counts}
-use Rattle.sorting.proofs.SortSpread.{all_get_d}
+use Rattle.sorting.proofs.SortSpread.{all_get_or}
 use Rattle.plaincalls.proofs.Kept.{clear_next, clear_all}
 use Rattle.plaincalls.proofs.moving.give_up.Statement.{statement}
 use Rattle.plaincalls.proofs.moving.give_up.Tie as tie
 
-abbrev invariant-loop : tie.invariant-loop
+abbrev invariant-loop : tie.invariant-loop-i
 invariant-loop blocks kept₀ i₀ kept i = (i ≤ length blocks) × (length kept ≡ length kept₀) × (clear_counts blocks kept₀ ≡ clear_counts (drop i blocks) kept)
 
-abbrev decreases-loop : tie.decreases-loop
+abbrev decreases-loop : tie.decreases-loop-i
 decreases-loop blocks kept₀ i₀ kept i = length blocks - i
 
-abbrev start : tie.After-shared-slice-known invariant-loop decreases-loop → tie.Start invariant-loop decreases-loop
-start c = c.before.before.before
-
 -- the block at i has a place
-inside : (c : tie.After-shared-slice-known invariant-loop decreases-loop) → get_or (start c).args.blocks.now c.before.before.loop.i 0 < length (start c).args.kept.now
-inside c = ltb-true _ _ (all_get_d (λ k. ltb k (length (start c).args.kept.now)) _ _ (start c).requires.1 c.before.loop-test.true)
+inside : (c : tie.After-shared_slice_known-1 invariant-loop decreases-loop) → get_or c.args.blocks.now c.loop-i.i 0 < length c.args.kept.now
+inside c = ltb-true _ _ (all_get_or (λ k. ltb k (length c.args.kept.now)) _ _ c.requires.1 c.loop-i-test.true)
 
-loop_again : tie.Need-loop-preserved invariant-loop decreases-loop
+loop_again : tie.Need-loop-i-preserved invariant-loop decreases-loop
 loop_again c =
-    let inv = c.before.before.loop.invariant in
-    (omega arith, simp length-set (omega arith), clear_next _ _ _ _ inv.2 c.before.loop-test.true)
+    let inv = c.loop-i.invariant in
+    (omega arith, simp length-set (omega arith), clear_next _ _ _ _ inv.2 c.loop-i-test.true)
 
 pub give_up_spec : {M : Type 1} → statement M
 give_up_spec = tie.close (tie.spec invariant-loop decreases-loop (λ c. (omega arith, refl, refl)) (λ c. omega arith) (λ c. omega arith)
-    (λ c. omega (arith, inside c, (start c).requires.0)) (λ c. omega (arith, inside c, c.before.before.loop.invariant.1)) (λ c. omega arith) (λ c. omega arith)
-    loop_again (λ c. omega arith) (λ c. clear_all _ _ _ _ c.before.loop.invariant.2 c.loop-test.false))
+    (λ c. omega (arith, inside c, c.requires.0)) (λ c. omega (arith, inside c, c.loop-i.invariant.1)) (λ c. omega arith) (λ c. omega arith)
+    loop_again (λ c. omega arith) (λ c. clear_all _ _ _ _ c.loop-i.invariant.2 c.loop-i-test.false))

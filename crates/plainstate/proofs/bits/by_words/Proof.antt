@@ -9,44 +9,41 @@ use Rattle.plainstate.proofs.Ones.{Counted, counted_none, counted_more, counted-
 use Rattle.plainstate.proofs.bits.by_words.Statement.{statement}
 use Rattle.plainstate.proofs.bits.by_words.Tie as tie
 
-abbrev invariant-loop : tie.invariant-loop
+abbrev invariant-loop : tie.invariant-loop-p
 invariant-loop bits a e p₀ n₀ p n = (a ≤ p) × (p ≤ e) × (p % 8 ≡ 0) × Counted (is_marked bits) a e p n
 
-abbrev decreases-loop : tie.decreases-loop
+abbrev decreases-loop : tie.decreases-loop-p
 decreases-loop bits a e p₀ n₀ p n = e - p
 
-abbrev start : tie.After-get-u32 invariant-loop decreases-loop → tie.Start invariant-loop decreases-loop
-start c = c.before.before.before.before
-
 -- with the bits of a word they are counted 32 pages further
-more : (c : tie.After-get-u32 invariant-loop decreases-loop) →
-    let turn = c.before.before.loop in
-    Counted (is_marked (start c).args.bits.now) (start c).args.a (start c).args.e (turn.p + 32) (turn.n + ones c.get-u32.result)
+more : (c : tie.After-get_u32-word invariant-loop decreases-loop) →
+    let turn = c.loop-p in
+    Counted (is_marked c.args.bits.now) c.args.a c.args.e (turn.p + 32) (turn.n + ones c.get_u32-word.result)
 more c =
-    let turn = c.before.before.loop in
-    let bits = (start c).args.bits.now in
-    let small : (i : ℕ) → get_or bits i 0 < 256 = λ i. omega (arith, c.before.before.before.shared-slice-known.given i) in
-    counted_more _ _ _ _ 32 _ _ (omega arith) (ap ones c.get-u32.ensures ∙ sym (word_count bits small _ turn.invariant.2)) turn.invariant.3
+    let turn = c.loop-p in
+    let bits = c.args.bits.now in
+    let small : (i : ℕ) → get_or bits i 0 < 256 = λ i. omega (arith, c.shared_slice_known-1.given i) in
+    counted_more _ _ _ _ 32 _ _ (omega arith) (ap ones c.get_u32-word.ensures ∙ sym (word_count bits small _ turn.invariant.2)) turn.invariant.3
 
-loop_holds : tie.Need-loop-init invariant-loop decreases-loop
+loop_holds : tie.Need-loop-p-init invariant-loop decreases-loop
 loop_holds c = (omega arith, omega arith, omega arith, counted_none _ _ _)
 
-get_u32_requires : tie.Need-get-u32-requires invariant-loop decreases-loop
+get_u32_requires : tie.Need-get_u32-word-requires invariant-loop decreases-loop
 get_u32_requires c κs = omega arith
 
-add_n : tie.Need-overflow-add-n invariant-loop decreases-loop
+add_n : tie.Need-overflow_add-n invariant-loop decreases-loop
 add_n c = omega (arith, counted_most _ _ _ _ _ (more c))
 
-loop_again : tie.Need-loop-preserved invariant-loop decreases-loop
-loop_again c = (omega arith, omega arith, omega (arith, c.before.before.loop.invariant.2), more c)
+loop_again : tie.Need-loop-p-preserved invariant-loop decreases-loop
+loop_again c = (omega arith, omega arith, omega (arith, c.loop-p.invariant.2), more c)
 
-one_by_one_requires : tie.Need-one-by-one-requires invariant-loop decreases-loop
+one_by_one_requires : tie.Need-one_by_one-requires invariant-loop decreases-loop
 one_by_one_requires c κs = (omega arith, omega arith, omega arith)
 
 returns : tie.Need-returns invariant-loop decreases-loop
-returns c = counted-rest _ _ _ _ _ _ c.one_by_one.ensures c.before.before.loop.invariant.3
+returns c = counted-rest _ _ _ _ _ _ c.one_by_one.ensures c.loop-p.invariant.3
 
-add_result : tie.Need-overflow-add-result invariant-loop decreases-loop
+add_result : tie.Need-overflow_add-result invariant-loop decreases-loop
 add_result c = omega (arith, count_most _ _ _ _ (returns c))
 
 pub by_words_spec : {M : Type 1} → statement M

@@ -5,18 +5,17 @@ use Rattle.plainstate.proofs.Marking.{value-inside, or_byte, or_stored}
 use Rattle.plainstate.proofs.bits.name_page.Statement.{statement}
 use Rattle.plainstate.proofs.bits.name_page.Tie as tie
 
-shared-slice-read-value : tie.Need-shared-slice-read-value
-shared-slice-read-value c = value-inside _ _ 0 c.before.before.before.before.before.requires.1
+shared-slice-read-value : tie.Need-bounds-values-p
+shared-slice-read-value c = value-inside _ _ 0 c.requires.1
 
-put_u8_requires : tie.Need-put-u8-requires
+put_u8_requires : tie.Need-put_u8-requires
 put_u8_requires c κs =
-    let made = c.before.before.get-u8 in
-    (omega arith, or_byte _ _ _ c.before.before.before.before.before.before.requires.1 made.ensures.1)
+    let made = c.get_u8-byte in
+    (omega arith, or_byte _ _ _ c.requires.1 made.ensures.1)
 
 returns : tie.Need-returns
 returns c =
-    let k = c.before.before.before in
-    or_stored _ _ _ k.before.before.before.before.before.before.requires.1 _ k.before.before.get-u8.ensures.0 _ c.before.before.put-u8.ensures
+    or_stored _ _ _ c.requires.1 _ c.get_u8-byte.ensures.0 _ c.put_u8.ensures
 
 pub name_page_spec : {M : Type 1} → statement M
 name_page_spec = tie.close (tie.spec (λ c. search rules) (λ c κs. search rules) (λ c. search rules) (λ c. search rules)

@@ -5,10 +5,10 @@ use Rattle.plainstate.proofs.Ones.{count_most, counts-joined}
 use Rattle.plainstate.proofs.bits.ones.Statement.{statement}
 use Rattle.plainstate.proofs.bits.ones.Tie as tie
 
-returns_2 : tie.Need-returns-2
-returns_2 c = counts-joined _ _ _ _ _ _ (omega arith) (omega arith) c.before.one-by-one2.ensures c.by-words.ensures
+returns_2 : tie.Need-returns
+returns_2 c = counts-joined _ _ _ _ _ _ (omega arith) (omega arith) c.one_by_one-first.ensures c.by_words.ensures
 
-add_result : tie.Need-overflow-add-result
+add_result : tie.Need-overflow_add-result
 add_result c = omega (arith, count_most _ _ _ _ (returns_2 c))
 
 pub ones_spec : {M : Type 1} → statement M

@@ -13,13 +13,13 @@ use Rattle.plainstate.proofs.Joining.{or_most_l, or_most_r}
 use Rattle.plainstate.proofs.naming.all_below.Statement.{statement}
 use Rattle.plainstate.proofs.naming.all_below.Tie as tie
 
-abbrev invariant-loop : tie.invariant-loop
+abbrev invariant-loop : tie.invariant-loop-j
 invariant-loop state d x n any₀ j₀ any j = (j ≤ 16) × ((i : ℕ) → i < j → entry_at (read_table state) (x + i) ≤ any)
 
-abbrev decreases-loop : tie.decreases-loop
+abbrev decreases-loop : tie.decreases-loop-j
 decreases-loop state d x n any₀ j₀ any j = 16 - j
 
-loop_holds : tie.Need-loop-init invariant-loop decreases-loop
+loop_holds : tie.Need-loop-j-init invariant-loop decreases-loop
 loop_holds c = (omega arith, λ i l. absurd (omega arith))
 
 -- a logical page's number is small
@@ -34,21 +34,20 @@ one_more_lem f x t j r before q i l = go (le_cases i j l)
     go (inl z) = subst (λ (y : ℕ). f (x + y) ≤ bit_or t r) z (omega (arith, q, or_most_r t r))
     go (inr z) = omega (arith, before i z, or_most_l t r)
 
-add_entry : tie.Need-overflow-add-entry invariant-loop decreases-loop
-add_entry c = omega (arith, c.loop-test.true, c.before.before.before.requires.1, logical c.before.before.before)
+add_entry : tie.Need-overflow_add-x invariant-loop decreases-loop
+add_entry c = omega (arith, c.loop-j-test.true, c.requires.1, logical c.before.before.before)
 
-entry_requires : tie.Need-entry-requires invariant-loop decreases-loop
-entry_requires c κs = (c.before.before.before.requires.0, omega (arith, c.loop-test.true, c.before.before.before.requires.1))
+entry_requires : tie.Need-entry-any-requires invariant-loop decreases-loop
+entry_requires c κs = (c.requires.0, omega (arith, c.loop-j-test.true, c.requires.1))
 
-loop_again : tie.Need-loop-preserved invariant-loop decreases-loop
+loop_again : tie.Need-loop-j-preserved invariant-loop decreases-loop
 loop_again c =
-    let k = c.before in
-    (omega (arith, k.loop-test.true), λ i l. one_more_lem (entry_at (read_table k.before.before.before.args.state.now)) _ _ _ _ k.before.loop.invariant.1 (sym c.entry.ensures) i (omega arith))
+    (omega (arith, c.loop-j-test.true), λ i l. one_more_lem (entry_at (read_table c.args.state.now)) _ _ _ _ c.loop-j.invariant.1 (sym c.entry-any.ensures) i (omega arith))
 
 returns : tie.Need-returns invariant-loop decreases-loop
 returns c =
-    λ so j l. let b : c.before.loop.any < c.before.before.before.args.n = ltb-true _ _ so in
-    omega (arith, c.before.loop.invariant.1 j (omega (arith, c.loop-test.false)), b)
+    λ so j l. let b : c.loop-j.any < c.args.n = ltb-true _ _ so in
+    omega (arith, c.loop-j.invariant.1 j (omega (arith, c.loop-j-test.false)), b)
 
 pub all_below_spec : {M : Type 1} → statement M
 all_below_spec = tie.close (tie.spec invariant-loop decreases-loop loop_holds add_entry entry_requires (λ c. omega arith) (λ c. omega arith) loop_again returns)

@@ -15,47 +15,41 @@ use Rattle.plainstate.proofs.NamedPages.{all_named_lem, none_named, none_marked}
 use Rattle.plainstate.proofs.naming.name_sixteen.Statement.{statement}
 use Rattle.plainstate.proofs.naming.name_sixteen.Tie as tie
 
-abbrev start : tie.After-all-below → tie.Start
-start c = c.before.before.before.before
-
-abbrev es : tie.After-all-below → List ℕ
-es c = (read_table (start c).args.state.now).entries
+abbrev es : tie.After-all_below → List ℕ
+es c = (read_table c.args.state.now).entries
 
 -- they are entries of the table
-taken : (c : tie.After-all-below) → (start c).args.x + 16 ≤ length (es c)
-taken c = omega (arith, (start c).requires.5, length-entries _ _ (start c).requires.0)
+taken : (c : tie.After-all_below) → c.args.x + 16 ≤ length (es c)
+taken c = omega (arith, c.requires.5, length-entries _ _ c.requires.0)
 
-name_below_requires : tie.Need-name-below-requires
+name_below_requires : tie.Need-name_below-requires
 name_below_requires c κs =
-    let k = c.before.before in
-    let pre = (start k).requires in
-    (pre.0, pre.1, omega (arith, pre.3), pre.4, pre.5, k.all_below.ensures c.before.if1.true, pre.6)
+    let pre = c.requires in
+    (pre.0, pre.1, omega (arith, pre.3), pre.4, pre.5, c.all_below.ensures c.if-all_below.true, pre.6)
 
-returns : tie.Need-returns
+returns : tie.Need-returns-then-all_below
 unfolding no_page
 returns c =
-    let k = c.before.before.before.before.before in
-    let all = k.all_below.ensures c.before.before.before.before.if1.true in
-    (omega (arith, all_named_lem (es k) (start k).args.beyond (start k).args.x (omega (arith, (start k).requires.4)) 16 (taken k) all), c.before.before.name_below.ensures)
+    let all = c.all_below.ensures c.if-all_below.true in
+    (omega (arith, all_named_lem (es c.before.before.before.before.before) c.args.beyond c.args.x (omega (arith, c.requires.4)) 16 (taken c.before.before.before.before.before) all), c.name_below.ensures)
 
-returns_2 : tie.Need-returns-2
+returns_2 : tie.Need-returns-then-in_steps
 unfolding no_page
 returns_2 c =
-    let k = c.before.before.before in
-    let x : ℕ = (start k).args.x in
-    let none : (j : ℕ) → j < 16 → get_or (es k) (x + j) no_page ≡ no_page = λ j l. omega (arith, c.before.in-steps.ensures c.if2.true j l) in
-    let few : pages (numbers_of (start k).args.d) ≤ no_page = omega (arith, (small _ (start k).requires.0.limits).all) in
-    (omega (arith, none_named (es k) 0 x 16 (taken k) none), none_marked (es k) _ x few 16 (taken k) none _ (start k).requires.6)
+    let x : ℕ = c.args.x in
+    let none : (j : ℕ) → j < 16 → get_or (es c.before.before.before) (x + j) no_page ≡ no_page = λ j l. omega (arith, c.in_steps.ensures c.if-in_steps.true j l) in
+    let few : pages (numbers_of c.args.d) ≤ no_page = omega (arith, (small _ c.requires.0.limits).all) in
+    (omega (arith, none_named (es c.before.before.before) 0 x 16 (taken c.before.before.before) none), none_marked (es c.before.before.before) _ x few 16 (taken c.before.before.before) none _ c.requires.6)
 
-name_any_requires : tie.Need-name-any-requires
+name_any_requires : tie.Need-name_any-requires
 name_any_requires c κs =
-    let pre = (start c.before.before.before.before).requires in
+    let pre = c.requires in
     (pre.0, pre.1, pre.2, pre.3, pre.4, pre.5, pre.6)
 
-returns_3 : tie.Need-returns-3
-returns_3 c = (c.count-names.ensures, c.before.before.before.name-any.ensures)
+returns_3 : tie.Need-returns
+returns_3 c = (c.count_names.ensures, c.name_any.ensures)
 
 pub name_sixteen_spec : {M : Type 1} → statement M
-name_sixteen_spec = tie.close (tie.spec (λ c κs. let pre = c.before.before.before.requires in (pre.0, pre.5)) name_below_requires (λ c. search rules) returns
-    (λ c κs. let pre = (start c.before).requires in (pre.0, pre.5, omega arith)) returns_2 name_any_requires
-    (λ c κs. let pre = (start c.before.before.before.before.before.before.before).requires in (pre.0, pre.5)) (λ c. search rules) returns_3)
+name_sixteen_spec = tie.close (tie.spec (λ c κs. let pre = c.requires in (pre.0, pre.5)) name_below_requires (λ c. search rules) returns
+    (λ c κs. let pre = c.requires in (pre.0, pre.5, omega arith)) returns_2 name_any_requires
+    (λ c κs. let pre = c.requires in (pre.0, pre.5)) (λ c. search rules) returns_3)

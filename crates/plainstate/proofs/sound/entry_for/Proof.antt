@@ -4,11 +4,11 @@ use Rattle.plainstate.proofs.Tallying.{free_entry_lem, used-entry}
 use Rattle.plainstate.proofs.sound.entry_for.Statement.{statement}
 use Rattle.plainstate.proofs.sound.entry_for.Tie as tie
 
-returns : tie.Need-returns
-returns c = free_entry_lem _ _ c.if1.true
+returns : tie.Need-returns-then-c-eq0
+returns c = free_entry_lem _ _ c.if-c-eq0.true
 
-returns_2 : tie.Need-returns-2
-returns_2 c = used-entry _ _ c.if1.false
+returns_2 : tie.Need-returns
+returns_2 c = used-entry _ _ c.if-c-eq0.false
 
 pub entry_for_spec : {M : Type 1} → statement M
-entry_for_spec = tie.close (tie.spec returns (λ c. omega (arith, c.before.requires)) returns_2)
+entry_for_spec = tie.close (tie.spec returns (λ c. omega (arith, c.requires)) returns_2)

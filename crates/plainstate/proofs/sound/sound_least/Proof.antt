@@ -5,8 +5,8 @@ use Rattle.model.proofs.Marks.{none_marked}
 use Rattle.plainstate.proofs.sound.sound_least.Statement.{statement}
 use Rattle.plainstate.proofs.sound.sound_least.Tie as tie
 
-sound_by_requires : tie.Need-sound-by-requires
-sound_by_requires c κs = let pre = c.before.before.before.before.requires in (pre.0, omega (arith, pre.1), omega arith, none_marked 528)
+sound_by_requires : tie.Need-sound_by-requires
+sound_by_requires c κs = let pre = c.requires in (pre.0, omega (arith, pre.1), omega arith, none_marked 528)
 
 pub sound_least_spec : {M : Type 1} → statement M
 sound_least_spec = tie.close (tie.spec (λ c. search rules) sound_by_requires (λ c. search rules) (λ c. search rules))

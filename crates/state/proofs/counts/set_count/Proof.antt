@@ -7,16 +7,16 @@ use Rattle.state.proofs.Writers.{count-stored_at}
 use Rattle.state.proofs.counts.set_count.Statement.{statement}
 use Rattle.state.proofs.counts.set_count.Tie as tie
 
-set_count_requires : tie.Need-set-count-requires
+set_count_requires : tie.Need-set_count-requires
 set_count_requires c κs =
-    let pre = c.before.before.requires in
+    let pre = c.requires in
     let room = front_in _ _ pre.0 in
     (room.0, room.1, pre.1, pre.2)
 
 returns : tie.Need-returns
 returns c =
-    let pre = c.before.before.before.before.before.requires in
-    ap read_state c.before.before.set-count.ensures.1 ∙ count-stored_at _ _ pre.0 _ _ pre.1 pre.2
+    let pre = c.requires in
+    ap read_state c.set_count.ensures.1 ∙ count-stored_at _ _ pre.0 _ _ pre.1 pre.2
 
 pub set_count_spec : {M : Type 1} → statement M
 set_count_spec = tie.close (tie.spec set_count_requires (λ c. search rules) returns)

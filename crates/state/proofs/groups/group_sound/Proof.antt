@@ -9,14 +9,14 @@ use Rattle.state.proofs.groups.group_sound.Statement.{statement}
 use Rattle.state.proofs.groups.group_sound.Tie as tie
 
 -- the part is group k's
-part : (c : tie.After-group-end) → GroupPart c.before.before.before.args.state.now c.before.before.before.args.k c.before.group-place.result c.group-end.result
-part c = lent _ _ c.before.before.before.requires.0 _ _ _ c.before.before.before.requires.1 c.before.group-place.ensures c.group-end.ensures
+part : (c : tie.After-group_end-e) → GroupPart c.args.state.now c.args.k c.group_place-a.result c.group_end-e.result
+part c = lent _ _ c.requires.0 _ _ _ c.requires.1 c.group_place-a.ensures c.group_end-e.ensures
 
-part-sound-end : tie.Need-slice-bounds-sound-end
+part-sound-end : tie.Need-slice_bounds-sound-end
 part-sound-end c = omega (arith, (part c).inside)
 
 sound_requires : tie.Need-sound-requires
-sound_requires c κs = ((part c.before).size, omega (arith, c.before.before.before.before.requires.1, (small _ c.before.before.before.before.requires.0.limits).groups))
+sound_requires c κs = ((part c.before).size, omega (arith, c.requires.1, (small _ c.requires.0.limits).groups))
 
 returns : tie.Need-returns
 returns c = c.sound.ensures ∙ ap (sound_group _ _) (part c.before.before).group

@@ -12,34 +12,33 @@ use Rattle.state.proofs.Marking.{unmarked_on, unmarked_end}
 use Rattle.state.proofs.marks.may_be_marked.Statement.{statement}
 use Rattle.state.proofs.marks.may_be_marked.Tie as tie
 
-abbrev invariant-loop : tie.invariant-loop
+abbrev invariant-loop : tie.invariant-loop-i
 invariant-loop state d batch count₀ i₀ count i = (i ≤ length batch) × (count ≤ i) × (count ≡ 0 → unmark_all batch (read_state state).marks ≡ unmark_all (drop i batch) (read_state state).marks)
 
-abbrev decreases-loop : tie.decreases-loop
+abbrev decreases-loop : tie.decreases-loop-i
 decreases-loop state d batch count₀ i₀ count i = length batch - i
 
-loop_holds : tie.Need-loop-init invariant-loop decreases-loop
+loop_holds : tie.Need-loop-i-init invariant-loop decreases-loop
 loop_holds c = (omega arith, omega arith, λ _. refl)
 
-has_marks_requires : tie.Need-has-marks-requires invariant-loop decreases-loop
+has_marks_requires : tie.Need-has_marks-count-requires invariant-loop decreases-loop
 has_marks_requires c κs =
-    let start = c.before.before.before.before.before in
-    (start.requires.0, all_below _ _ start.requires.1 _ (elem-get_or _ _ c.before.loop-test.true))
+    (c.requires.0, all_below _ _ c.requires.1 _ (elem-get_or _ _ c.loop-i-test.true))
 
-add_count : tie.Need-overflow-add-count invariant-loop decreases-loop
-add_count c = omega (arith, c.has-marks.ensures.0)
+add_count : tie.Need-overflow_add-count invariant-loop decreases-loop
+add_count c = omega (arith, c.has_marks-count.ensures.0)
 
-loop_again : tie.Need-loop-preserved invariant-loop decreases-loop
+loop_again : tie.Need-loop-i-preserved invariant-loop decreases-loop
 loop_again c =
-    let turn = c.before.before.before.loop in (
+    let turn = c.loop-i in (
       omega arith,
-      omega (arith, c.has-marks.ensures.0),
-      λ e. turn.invariant.2 (omega arith) ∙ unmarked_on _ _ _ c.before.before.loop-test.true (c.has-marks.ensures.1 (omega arith) _ refl),
+      omega (arith, c.has_marks-count.ensures.0),
+      λ e. turn.invariant.2 (omega arith) ∙ unmarked_on _ _ _ c.loop-i-test.true (c.has_marks-count.ensures.1 (omega arith) _ refl),
     )
 
 returns : tie.Need-returns invariant-loop decreases-loop
 returns c =
-    λ e. let none = ltb-false 0 c.before.loop.count e in c.before.loop.invariant.2 (omega (arith, none)) ∙ unmarked_end _ _ _ c.loop-test.false
+    λ e. let none = ltb-false 0 c.loop-i.count e in c.loop-i.invariant.2 (omega (arith, none)) ∙ unmarked_end _ _ _ c.loop-i-test.false
 
 pub may_be_marked_spec : {M : Type 1} → statement M
 may_be_marked_spec = tie.close (tie.spec invariant-loop decreases-loop loop_holds (λ c. omega arith) (λ c. omega arith) has_marks_requires

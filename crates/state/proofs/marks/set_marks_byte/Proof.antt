@@ -7,13 +7,12 @@ use borrow.Author.Rules.{rules}
 use Rattle.state.proofs.marks.set_marks_byte.Statement.{statement}
 use Rattle.state.proofs.marks.set_marks_byte.Tie as tie
 
-put_u8_requires : tie.Need-put-u8-requires
-put_u8_requires c κs = (marks_in _ _ c.before.before.before.requires.0 _ _ c.before.before.before.requires.1 c.before.marks-place.ensures, c.before.before.before.requires.2)
+put_u8_requires : tie.Need-put_u8-requires
+put_u8_requires c κs = (marks_in _ _ c.requires.0 _ _ c.requires.1 c.marks_place-p.ensures, c.requires.2)
 
 returns : tie.Need-returns
 returns c =
-    let start = c.before.before.before.before.before.before in
-    ap read_state c.before.before.put-u8.ensures ∙ marks-stored_at _ _ start.requires.0 _ _ _ start.requires.1 c.before.before.before.before.marks-place.ensures
+    ap read_state c.put_u8.ensures ∙ marks-stored_at _ _ c.requires.0 _ _ _ c.requires.1 c.marks_place-p.ensures
 
 pub set_marks_byte_spec : {M : Type 1} → statement M
 set_marks_byte_spec = tie.close (tie.spec (λ c κs. search rules) put_u8_requires (λ c. search rules) returns)

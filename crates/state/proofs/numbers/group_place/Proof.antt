@@ -6,14 +6,14 @@ use borrow.Author.Rules.{rules}
 use Rattle.state.proofs.numbers.group_place.Statement.{statement}
 use Rattle.state.proofs.numbers.group_place.Tie as tie
 
-marks_place_requires : tie.Need-marks-place-requires
-marks_place_requires c κs = (c.before.requires.0, omega (arith, c.marks-count.ensures))
+marks_place_requires : tie.Need-marks_place-requires
+marks_place_requires c κs = (c.requires.0, omega (arith, c.marks_count-n.ensures))
 
-add_result : tie.Need-overflow-add-result
-add_result c = omega (arith, group_from (numbers_of c.before.before.args.d) c.before.before.args.k _ _ c.before.marks-count.ensures c.marks-place.ensures, group-small _ _ c.before.before.requires.0 c.before.before.requires.1)
+add_result : tie.Need-overflow_add-result
+add_result c = omega (arith, group_from (numbers_of c.args.d) c.args.k _ _ c.marks_count-n.ensures c.marks_place.ensures, group-small _ _ c.requires.0 c.requires.1)
 
 returns : tie.Need-returns
-returns c = group_from _ _ _ _ c.before.marks-count.ensures c.marks-place.ensures
+returns c = group_from _ _ _ _ c.marks_count-n.ensures c.marks_place.ensures
 
 pub group_place_spec : {M : Type 1} → statement M
 group_place_spec = tie.close (tie.spec (λ c κs. search rules) marks_place_requires (λ c. search rules) add_result returns)

@@ -6,8 +6,8 @@ use Rattle.state.proofs.Places.{small}
 use Rattle.state.proofs.numbers.marks_count.Statement.{statement}
 use Rattle.state.proofs.numbers.marks_count.Tie as tie
 
-add_result : tie.Need-overflow-add-result
-add_result c = omega (arith, (small _ c.before.requires).pages)
+add_result : tie.Need-overflow_add-result
+add_result c = omega (arith, (small _ c.requires).pages)
 
 returns : tie.Need-returns
 unfolding marks_count

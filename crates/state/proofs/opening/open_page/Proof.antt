@@ -4,7 +4,6 @@ use mathlib.Core.List.{List}
 use mathlib.Core.Option.{none}
 use Prim.Native.Nat.{ℕ}
 use borrow.Author.Rules.{rules}
-use borrow.Author.Tests.{not-true, not-false}
 use Rattle.model.specs.State.{State}
 use Rattle.model.proofs.Limits.{group-inside}
 use Rattle.calls.specs.Refusals.{first_refusal, opening_with}
@@ -19,45 +18,42 @@ use Rattle.state.proofs.opening.open_page.Statement.{statement}
 use Rattle.state.proofs.opening.open_page.Tie as tie
 
 -- the state and its spare area, where they are opened
-abbrev s : tie.After-known-told → State
-s c = read_state c.before.before.before.before.before.before.args.state.now
+abbrev s : tie.In-Device → State
+s c = read_state c.args.state.now
 
-abbrev area : tie.After-known-told → List ℕ
-area c = c.before.before.before.before.before.before.args.spare.now
+abbrev area : tie.In-Device → List ℕ
+area c = c.args.spare.now
 
 -- what that says
-passed : (c : tie.After-known-told) → (first_refusal (opening_with (s c) (area c)) ≡ none) × ((s c).device ≡ numbers_of c.before.opened.given.0.0)
-passed c = passed_all _ (s c).device _ c.before.before.before.open-with-spare.ensures _ c.before.opened.given.1
+passed : (c : tie.In-Device) → (first_refusal (opening_with (s c) (area c)) ≡ none) × ((s c).device ≡ numbers_of c.in-Device.d)
+passed c = passed_all _ (s c).device _ c.open_with_spare-opened.ensures _ c.in-Device.is
 
-returns : tie.Need-returns
+returns : tie.Need-returns-in-Refused
 unfolding verdict_of
 returns c =
     says-refused _ _
-    (page-closed _ _ _ _ (refused_first _ _ _ c.before.before.before.open-with-spare.ensures _ c.before.opened2.given.1))
+    (page-closed _ _ _ _ (refused_first _ _ _ c.open_with_spare-opened.ensures _ c.in-Refused.is))
 
-returns_2 : tie.Need-returns-2
+returns_2 : tie.Need-returns-then-d-page
 unfolding verdict_of refusal_of
-returns_2 c = says-refused _ (s c.before.before).device (no_page_lem _ _ _ _ (passed c.before.before) c.if1.true)
+returns_2 c = says-refused _ (s c.before.before).device (no_page_lem _ _ _ _ (passed c.before.before) c.if-d-page.true)
 
-group_sound_requires : tie.Need-group-sound-requires
+group_sound_requires : tie.Need-group_sound-requires
 group_sound_requires c κs =
-    let k = c.before.before in
-    ((opened_with_lem (s k) (area k) _ (passed k).0 (passed k).1).0, group-inside _ _ c.if1.false)
+    ((opened_with_lem (s c.before.before) (area c.before.before) _ (passed c.before.before).0 (passed c.before.before).1).0, group-inside _ _ c.if-d-page.false)
 
-returns_3 : tie.Need-returns-3
+returns_3 : tie.Need-returns-then-not-group_sound
 unfolding verdict_of refusal_of
 returns_3 c =
-    let k = c.before.before.before.before in
-    says-refused _ (s k).device
-    (page_unsound _ _ _ _ (passed k) c.before.before.if1.false (sym c.before.group-sound.ensures ∙ not-true c.before.group-sound.result c.if2.true))
+    says-refused _ (s c.before.before.before.before).device
+    (page_unsound _ _ _ _ (passed c.before.before.before.before) c.if-d-page.false (sym c.group_sound.ensures ∙ c.if-not-group_sound.true))
 
-returns_4 : tie.Need-returns-4
+returns_4 : tie.Need-returns
 unfolding verdict_of
 returns_4 c =
-    let k = c.before.before.before.before in
-    says-passed _ (s k).device
-    (page-clear _ _ _ _ (passed k) c.before.before.if1.false (sym c.before.group-sound.ensures ∙ not-false c.before.group-sound.result c.if2.false))
-    (sym (passed k).1)
+    says-passed _ (s c.before.before.before.before).device
+    (page-clear _ _ _ _ (passed c.before.before.before.before) c.if-d-page.false (sym c.group_sound.ensures ∙ c.if-not-group_sound.false))
+    (sym (passed c.before.before.before.before).1)
 
 pub open_page_spec : {M : Type 1} → statement M
 open_page_spec = tie.close (tie.spec (λ c κs. search rules) (λ c. search rules) (λ c. search rules) returns returns_2

@@ -2,7 +2,6 @@
 use mathlib.Core.Path.{◌≡◌, sym, ap, ◌∙◌}
 use mathlib.Core.Bool.{true}
 use borrow.Author.Rules.{rules}
-use borrow.Author.Tests.{not-true, not-false}
 use Rattle.model.specs.Device.{within_limits, head_length, state_length}
 use Rattle.model.specs.State.{State}
 use Rattle.front.specs.Read.{numbers_of}
@@ -15,49 +14,49 @@ use Rattle.state.proofs.opening.open_state.Statement.{statement}
 use Rattle.state.proofs.opening.open_state.Tie as tie
 
 -- the state, at the return behind each test
-abbrev s₁ : tie.Then1 → State
-s₁ c = read_state c.before.before.args.state.now
+abbrev s₁ : tie.Then-state-lt-HEAD → State
+s₁ c = read_state c.args.state.now
 
-abbrev s₂ : tie.After-within-limits → State
-s₂ c = read_state c.before.before.before.before.args.state.now
+abbrev s₂ : tie.After-within_limits → State
+s₂ c = read_state c.args.state.now
 
-abbrev s₃ : tie.After-state-len → State
+abbrev s₃ : tie.After-state_len → State
 s₃ c = s₂ c.before.before
 
 -- the numbers that were read are within their limits, or not, as the test says; so are the state's
-within : (c : tie.Else2) → within_limits (numbers_of c.before.before.numbers.result) ≡ true
-within c = sym c.before.within-limits.ensures ∙ not-false c.before.within-limits.result c.if2.false
+within : (c : tie.Else-not-within_limits) → within_limits (numbers_of c.numbers-d.result) ≡ true
+within c = sym c.within_limits.ensures ∙ c.if-not-within_limits.false
 
-numbers_requires : tie.Need-numbers-requires
+numbers_requires : tie.Need-numbers-d-requires
 unfolding head_length
-numbers_requires c κs = c.if1.false
+numbers_requires c κs = c.if-state-lt-HEAD.false
 
-returns : tie.Need-returns
+returns : tie.Need-returns-then-state-lt-HEAD
 unfolding verdict_of refusal_of read_state head_length
-returns c = says-refused _ (s₁ c).device (too_short_lem (s₁ c) c.if1.true)
+returns c = says-refused _ (s₁ c).device (too_short_lem (s₁ c) c.if-state-lt-HEAD.true)
 
-returns_2 : tie.Need-returns-2
+returns_2 : tie.Need-returns-then-not-within_limits
 unfolding verdict_of refusal_of read_state head_length
 returns_2 c =
     says-refused _ (s₂ c.before).device
-    (not_within (s₂ c.before) c.before.before.before.if1.false
-    (ap within_limits (sym c.before.before.numbers.ensures) ∙ sym c.before.within-limits.ensures ∙ not-true c.before.within-limits.result c.if2.true))
+    (not_within (s₂ c.before) c.if-state-lt-HEAD.false
+    (ap within_limits (sym c.numbers-d.ensures) ∙ sym c.within_limits.ensures ∙ c.if-not-within_limits.true))
 
-returns_3 : tie.Need-returns-3
+returns_3 : tie.Need-returns-then-state-state_len
 unfolding verdict_of refusal_of read_state head_length
 returns_3 c =
-    let read = c.before.before.before.before.numbers.ensures in
+    let read = c.numbers-d.ensures in
     says-refused _ (s₃ c.before).device
-    (not_long (s₃ c.before) c.before.before.before.before.before.if1.false (ap within_limits (sym read) ∙ within c.before.before)
-    (λ e. c.if3.true (e ∙ ap state_length (sym read) ∙ sym c.before.state-len.ensures)))
+    (not_long (s₃ c.before) c.if-state-lt-HEAD.false (ap within_limits (sym read) ∙ within c.before.before)
+    (λ e. c.if-state-state_len.true (e ∙ ap state_length (sym read) ∙ sym c.state_len.ensures)))
 
-returns_4 : tie.Need-returns-4
+returns_4 : tie.Need-returns
 unfolding verdict_of read_state head_length
 returns_4 c =
-    let read = c.before.before.before.before.numbers.ensures in
+    let read = c.numbers-d.ensures in
     says-passed _ (s₃ c.before).device
-    (is_open (s₃ c.before) c.before.before.before.before.before.if1.false (ap within_limits (sym read) ∙ within c.before.before)
-    (c.if3.false ∙ c.before.state-len.ensures ∙ ap state_length read)) read
+    (is_open (s₃ c.before) c.if-state-lt-HEAD.false (ap within_limits (sym read) ∙ within c.before.before)
+    (c.if-state-state_len.false ∙ c.state_len.ensures ∙ ap state_length read)) read
 
 pub open_state_spec : {M : Type 1} → statement M
 open_state_spec = tie.close (tie.spec returns numbers_requires (λ c κs. search rules) returns_2 (λ c κs. within c) returns_3 returns_4)

@@ -15,30 +15,24 @@ use borrow.Author.Rules.{rules}
 use Rattle.state.proofs.seek.descend.Statement.{statement}
 use Rattle.state.proofs.seek.descend.Tie as tie
 
-abbrev start : tie.After-known-told → tie.Start
-start c = c.before.before.before.before.before.before
-
-abbrev start' : tie.After-known-told2 → tie.Start
-start' c = c.before.before.before.before.before.before
-
-find_requires : tie.Need-find-requires
-find_requires c κs = (c.before.before.requires.0, group-inside _ _ c.before.before.requires.2, c.before.before.requires.3, omega arith)
+find_requires : tie.Need-find-hit-requires
+find_requires c κs = (c.requires.0, group-inside _ _ c.requires.2, c.requires.3, omega arith)
 
 -- the record that was found
-hit : (c : tie.After-known-told) → some c.before.hit.given.0.0 ≡ map bare (holder (offset_of (start c).args.page) (listing (group_at (read_state (start c).args.state.now) (group_of (start c).args.page))))
+hit : (c : tie.In-At) → some c.in-At.r ≡ map bare (holder (offset_of c.args.page) (listing (group_at (read_state c.args.state.now) (group_of c.args.page))))
 unfolding found_of
-hit c = sym (ap found_of c.before.hit.given.1) ∙ c.before.before.before.find.ensures.0
+hit c = sym (ap found_of c.in-At.is) ∙ c.find-hit.ensures.0
 
 named_requires : tie.Need-named-requires
-named_requires c κs = ((start c).requires.0.limits, (start c).requires.1, held_word _ _ _ _ (start c).requires.3 _ (hit c))
+named_requires c κs = (c.requires.0.limits, c.requires.1, held_word _ _ _ _ c.requires.3 _ (hit c))
 
-returns : tie.Need-returns
+returns : tie.Need-returns-in-At
 unfolding lookup_answer looked_of
-returns c = descend-held _ _ _ _ (start c.before).requires.0.numbers _ _ _ (held_is _ _ _ _ (start c.before).requires.3 _ (hit c.before)) (sym (ap looked_of c.before.before.hit.given.1) ∙ c.before.before.before.before.find.ensures.1) (c.named.ensures _)
+returns c = descend-held _ _ _ _ c.requires.0.numbers _ _ _ (held_is _ _ _ _ c.requires.3 _ (hit c.before)) (sym (ap looked_of c.in-At.is) ∙ c.find-hit.ensures.1) (c.named.ensures _)
 
-returns_2 : tie.Need-returns-2
+returns_2 : tie.Need-returns-in-Nowhere
 unfolding lookup_answer found_of looked_of
-returns_2 c = descend_none _ _ _ _ (start' c).requires.0.numbers _ (sym (ap found_of c.before.hit2.given.1) ∙ c.before.before.before.find.ensures.0) (sym (ap looked_of c.before.hit2.given.1) ∙ c.before.before.before.find.ensures.1)
+returns_2 c = descend_none _ _ _ _ c.requires.0.numbers _ (sym (ap found_of c.in-Nowhere.is) ∙ c.find-hit.ensures.0) (sym (ap looked_of c.in-Nowhere.is) ∙ c.find-hit.ensures.1)
 
 pub descend_spec : {M : Type 1} → statement M
 descend_spec = tie.close (tie.spec find_requires (λ c. search rules) named_requires (λ c. search rules) returns returns_2)

@@ -33,25 +33,24 @@ some_pages c =
 abbrev said : tie.Start → ℕ
 said c = (c.args.f % 2097152 + 2096127) % 2097152
 
-existing_requires : tie.Need-existing-requires
+existing_requires : tie.Need-existing-at-requires
 unfolding pages
 existing_requires c κs = some_pages c.before.before
 
 middle_requires : tie.Need-middle-requires
 unfolding pages
-middle_requires c κs = let pre = c.before.before.before.requires in (pre.0, pre.1, c.existing.ensures.0)
+middle_requires c κs = let pre = c.requires in (pre.0, pre.1, c.existing-at.ensures.0)
 
-returns_2 : tie.Need-returns-2
+returns_2 : tie.Need-returns
 unfolding pages
 returns_2 c =
-    let start = c.before.before.before.before.before in
-    let no = or_none _ _ c.if1.false in
-    let there : said start < pages (numbers_of start.args.d) = leb-false _ _ no.0 in
-    let number : start.args.f % 2097152 ≡ said start + 1025 = omega (arith, there, few start) in
-    let same : said start ≡ start.args.f % 2097152 - 1025 = omega (arith, number) in
-    let at : c.before.middle.result ≡ middle (numbers_of start.args.d) start.args.spare.now (said start) = c.before.middle.ensures ∙ ap (middle (numbers_of start.args.d) start.args.spare.now) (c.before.before.existing.ensures.1 there) in
-    let named : some (said start) ≡ page_named (numbers_of start.args.d) start.args.spare.now (said start) start.args.page = named-predicted _ _ _ _ _ at (eqb-true _ _ (not-false _ no.1)) in
-    (omega arith, λ z a t. told-plainly _ _ _ _ (few start) a t (λ e. omega (arith, number, e)) (omega (arith, number)) (omega (arith, same, there)) (rw same at named))
+    let no = or_none _ _ c.if-pages-q.false in
+    let there : said c.before.before.before.before.before < pages (numbers_of c.args.d) = leb-false _ _ no.0 in
+    let number : c.args.f % 2097152 ≡ said c.before.before.before.before.before + 1025 = omega (arith, there, few c.before.before.before.before.before) in
+    let same : said c.before.before.before.before.before ≡ c.args.f % 2097152 - 1025 = omega (arith, number) in
+    let at : c.middle.result ≡ middle (numbers_of c.args.d) c.args.spare.now (said c.before.before.before.before.before) = c.middle.ensures ∙ ap (middle (numbers_of c.args.d) c.args.spare.now) (c.existing-at.ensures.1 there) in
+    let named : some (said c.before.before.before.before.before) ≡ page_named (numbers_of c.args.d) c.args.spare.now (said c.before.before.before.before.before) c.args.page = named-predicted _ _ _ _ _ at (eqb-true _ _ (not-false _ no.1)) in
+    (omega arith, λ z a t. told-plainly _ _ _ _ (few c.before.before.before.before.before) a t (λ e. omega (arith, number, e)) (omega (arith, number)) (omega (arith, same, there)) (rw same at named))
 
 pub strays_spec : {M : Type 1} → statement M
-strays_spec = tie.close (tie.spec (λ c. omega (arith, pages-small (numbers_of c.before.before.args.d) c.before.before.requires.0)) (λ c. search rules) (λ c. search rules) existing_requires middle_requires (λ c. (omega arith, λ z. absurd (omega (arith, z)))) returns_2)
+strays_spec = tie.close (tie.spec (λ c. omega (arith, pages-small (numbers_of c.args.d) c.requires.0)) (λ c. search rules) (λ c. search rules) existing_requires middle_requires (λ c. (omega arith, λ z. absurd (omega (arith, z)))) returns_2)

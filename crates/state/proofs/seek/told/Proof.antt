@@ -16,33 +16,31 @@ few : (c : tie.Start) → pages (numbers_of c.args.d) ≤ 1048576
 unfolding pages
 few c = pages-small (numbers_of c.args.d) c.requires.0
 
-returns : tie.Need-returns
+returns : tie.Need-returns-then-c-eq0
 unfolding lookup_answer
-returns c = λ a t. told_none _ _ _ _ (few c.before.before) a t c.if1.true
+returns c = λ a t. told_none _ _ _ _ (few c.before.before) a t c.if-c-eq0.true
 
-returns_2 : tie.Need-returns-2
+returns_2 : tie.Need-returns-then-c-lt-PAGE_0
 unfolding lookup_answer refusal_of
-returns_2 c = λ a t. told-low _ _ _ _ (few c.before.before.before) a t c.before.if1.false c.if2.true
+returns_2 c = λ a t. told-low _ _ _ _ (few c.before.before.before) a t c.if-c-eq0.false c.if-c-lt-PAGE_0.true
 
-returns_3 : tie.Need-returns-3
+returns_3 : tie.Need-returns-then-d-q
 unfolding lookup_answer refusal_of pages
-returns_3 c = λ a t. told_far _ _ _ _ (few c.before.before.before.before.before) a t c.before.before.before.if1.false c.before.before.if2.false c.if3.true
+returns_3 c = λ a t. told_far _ _ _ _ (few c.before.before.before.before.before) a t c.if-c-eq0.false c.if-c-lt-PAGE_0.false c.if-d-q.true
 
-page_named_requires : tie.Need-page-named-requires
+page_named_requires : tie.Need-page_named-requires
 unfolding pages
-page_named_requires c κs = let pre = c.before.before.before.before.before.requires in (pre.0, pre.1, c.if3.false)
+page_named_requires c κs = let pre = c.requires in (pre.0, pre.1, c.if-d-q.false)
 
-returns_4 : tie.Need-returns-4
+returns_4 : tie.Need-returns-in_default
 unfolding lookup_answer refusal_of pages named_of
 returns_4 c = λ a t.
-    let known = c.before.before.before in
-    told-unnamed _ _ _ _ (few known.before.before.before.before.before) a t known.before.before.before.if1.false known.before.before.if2.false known.if3.false (sym (ap named_of c.enum_told.given.1) ∙ c.before.before.page-named.ensures)
+    told-unnamed _ _ _ _ (few c.before.before.before.before.before.before.before) a t c.if-c-eq0.false c.if-c-lt-PAGE_0.false c.if-d-q.false (sym (ap named_of c.in_default.is) ∙ c.page_named.ensures)
 
-returns_5 : tie.Need-returns-5
+returns_5 : tie.Need-returns
 unfolding lookup_answer pages named_of
 returns_5 c = λ a t.
-    let known = c.before.before.before.before in
-    told-found _ _ _ _ (few known.before.before.before.before.before) a t known.before.before.before.if1.false known.before.before.if2.false known.if3.false _ (sym (ap named_of c.before.p.given.1) ∙ c.before.before.before.page-named.ensures)
+    told-found _ _ _ _ (few c.before.before.before.before.before.before.before) a t c.if-c-eq0.false c.if-c-lt-PAGE_0.false c.if-d-q.false _ (sym (ap named_of c.in-Page.is) ∙ c.page_named.ensures)
 
 pub told_spec : {M : Type 1} → statement M
-told_spec = tie.close (tie.spec returns returns_2 (λ c. omega (arith, pages-small (numbers_of c.before.before.before.before.args.d) c.before.before.before.before.requires.0)) returns_3 page_named_requires (λ c. search rules) (λ c. search rules) returns_4 returns_5)
+told_spec = tie.close (tie.spec returns returns_2 (λ c. omega (arith, pages-small (numbers_of c.args.d) c.requires.0)) returns_3 page_named_requires (λ c. search rules) (λ c. search rules) returns_4 returns_5)

@@ -18,34 +18,29 @@ use Rattle.upkeep.proofs.Discarding.{discard-refused, discard_done_lem}
 use Rattle.upkeep.proofs.discard.discard.Statement.{statement}
 use Rattle.upkeep.proofs.discard.discard.Tie as tie
 
--- where the page passed its checks: the state, its spare area, the page
-abbrev start : tie.After-known-told → tie.Start
-start c = c.before.before.before.before.before.before.before
+abbrev s : tie.In-Device → State
+s c = read_state c.args.state.now
 
-abbrev s : tie.After-known-told → State
-s c = read_state (start c).args.state.now
-
-abbrev area : tie.After-known-told → List ℕ
-area c = (start c).args.spare.now
+abbrev area : tie.In-Device → List ℕ
+area c = c.args.spare.now
 
 -- what that says
-passed : (c : tie.After-known-told)
-    → (first_refusal (lookup_checks (start c).args.page (lend (s c) (area c) [] [])) ≡ none) × ((s c).device ≡ numbers_of c.before.opened.given.0.0)
-passed c = passed_all _ (s c).device _ c.before.before.before.open-page.ensures _ c.before.opened.given.1
+passed : (c : tie.In-Device)
+    → (first_refusal (lookup_checks c.args.page (lend (s c) (area c) [] [])) ≡ none) × ((s c).device ≡ numbers_of c.in-Device.d)
+passed c = passed_all _ (s c).device _ c.open_page-opened.ensures _ c.in-Device.is
 
-returns : tie.Need-returns
+returns : tie.Need-returns-in-Refused
 unfolding discard_answer
-returns c = discard-refused _ _ _ _ (refused_first _ _ _ c.before.before.before.open-page.ensures _ c.before.opened2.given.1)
+returns c = discard-refused _ _ _ _ (refused_first _ _ _ c.open_page-opened.ensures _ c.in-Refused.is)
 
 mark_requires : tie.Need-mark-requires
 mark_requires c κs =
-    let k = c.before in
-    let p = opened-page (s k) (area k) (start k).args.page _ (passed k).0 (passed k).1 in
+    let p = opened-page (s c.before) (area c.before) c.args.page _ (passed c.before).0 (passed c.before).1 in
     (p.0, omega (arith, p.2))
 
-returns_2 : tie.Need-returns-2
+returns_2 : tie.Need-returns
 unfolding discard_answer
-returns_2 c = discard_done_lem _ _ _ (passed c.before.before.before.before).0 _ c.before.before.mark.ensures
+returns_2 c = discard_done_lem _ _ _ (passed c.before.before.before.before).0 _ c.mark.ensures
 
 pub discard_spec : {M : Type 1} → statement M
 discard_spec = tie.close (tie.spec (λ c κs. search rules) (λ c. search rules) (λ c. search rules) (λ c. search rules) returns

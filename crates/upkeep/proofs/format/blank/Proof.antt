@@ -10,39 +10,28 @@ use borrow.Author.Rules.{rules}
 use Rattle.upkeep.proofs.format.blank.Statement.{statement}
 use Rattle.upkeep.proofs.format.blank.Tie as tie
 
-abbrev start : tie.After-write-numbers → tie.Start
-start c = c.before.before.before
-
-abbrev after-numbers : tie.After-free-blocks → tie.After-write-numbers
-after-numbers c = c.before.before.before.before
-
-abbrev after-counts : tie.After-clear-marks → tie.After-free-blocks
-after-counts c = c.before.before.before.before
-
 -- the state has its shape behind each pass
-shape : (c : tie.After-write-numbers) → Shaped (numbers_of (start c).args.d) (read_state c.write-numbers.new.0)
-shape c = head_shape _ _ _ (start c).requires.0 (start c).requires.1 c.write-numbers.ensures
+shape : (c : tie.After-write_numbers) → Shaped (numbers_of c.args.d) (read_state c.write_numbers.new.state)
+shape c = head_shape _ _ _ c.requires.0 c.requires.1 c.write_numbers.ensures
 
-shape_freed : (c : tie.After-free-blocks) → Shaped (numbers_of (start (after-numbers c)).args.d) (read_state c.free-blocks.new.0)
-shape_freed c = rw c.free-blocks.ensures (shaped-counts _ _ _ (shape (after-numbers c)))
+shape_freed : (c : tie.After-free_blocks) → Shaped (numbers_of c.args.d) (read_state c.free_blocks.new.state)
+shape_freed c = rw c.free_blocks.ensures (shaped-counts _ _ _ (shape c.before.before.before.before))
 
-write_numbers_requires : tie.Need-write-numbers-requires
-write_numbers_requires c κs = omega (arith, head_inside (numbers_of c.before.before.args.d), c.before.before.requires.1)
+write_numbers_requires : tie.Need-write_numbers-requires
+write_numbers_requires c κs = omega (arith, head_inside (numbers_of c.args.d), c.requires.1)
 
-free_blocks_requires : tie.Need-free-blocks-requires
+free_blocks_requires : tie.Need-free_blocks-requires
 free_blocks_requires c κs = shape c.before.before.before
 
-clear_marks_requires : tie.Need-clear-marks-requires
+clear_marks_requires : tie.Need-clear_marks-requires
 clear_marks_requires c κs = shape_freed c.before.before.before
 
-empty_groups_requires : tie.Need-empty-groups-requires
-empty_groups_requires c κs = let k = c.before.before.before in rw k.clear-marks.ensures (shaped-marks _ _ _ (shape_freed (after-counts k)))
+empty_groups_requires : tie.Need-empty_groups-requires
+empty_groups_requires c κs = rw c.clear_marks.ensures (shaped-marks _ _ _ (shape_freed c.before.before.before.before.before.before.before))
 
 returns : tie.Need-returns
 returns c =
-    let k = c.before.before.before.before.before.before in
-    let numbers = after-numbers (after-counts k) in
-    blank-read _ _ _ (start numbers).pre.0 (start numbers).pre.1 numbers.write-numbers.ensures _ _ _ (after-counts k).free-blocks.ensures k.clear-marks.ensures c.before.before.empty-groups.ensures
+    blank-read _ _ _ c.requires.0 c.requires.1 c.write_numbers.ensures _ _ _ c.free_blocks.ensures c.clear_marks.ensures c.empty_groups.ensures
 
 pub blank_spec : {M : Type 1} → statement M
 blank_spec = tie.close (tie.spec write_numbers_requires free_blocks_requires clear_marks_requires empty_groups_requires

@@ -11,10 +11,10 @@ use Rattle.upkeep.proofs.format.empty_group.Statement.{statement}
 use Rattle.upkeep.proofs.format.empty_group.Tie as tie
 
 -- the part is group k's
-part : (c : tie.After-group-end) → GroupPart c.before.before.before.args.state.now c.before.before.before.args.k c.before.group-place.result c.group-end.result
-part c = lent _ _ c.before.before.before.requires.0 _ _ _ c.before.before.before.requires.1 c.before.group-place.ensures c.group-end.ensures
+part : (c : tie.After-group_end-e) → GroupPart c.args.state.now c.args.k c.group_place-a.result c.group_end-e.result
+part c = lent _ _ c.requires.0 _ _ _ c.requires.1 c.group_place-a.ensures c.group_end-e.ensures
 
-part-empty-end : tie.Need-slice-bounds-empty-end
+part-empty-end : tie.Need-slice_bounds-empty-end
 part-empty-end c = omega (arith, (part c).inside)
 
 empty_requires : tie.Need-empty-requires
@@ -22,11 +22,10 @@ empty_requires c κs = (part c.before).size
 
 returns : tie.Need-returns
 returns c =
-    let start = c.before.before.before.before.before.before.before in
-    let s = read_state start.args.state.now in
-    let made = c.before.before.empty in
-    part_replaced _ _ start.requires.0 _ _ _ start.requires.1 c.before.before.before.before.before.group-place.ensures c.before.before.before.before.group-end.ensures _ made.auto.0
-    ∙ ap (λ (g : Group). with_groups (set s.groups start.args.k g) s) made.ensures
+    let s = read_state c.args.state.now in
+    let made = c.empty in
+    part_replaced _ _ c.requires.0 _ _ _ c.requires.1 c.group_place-a.ensures c.group_end-e.ensures _ made.auto.b
+    ∙ ap (λ (g : Group). with_groups (set s.groups c.args.k g) s) made.ensures
 
 pub empty_group_spec : {M : Type 1} → statement M
 empty_group_spec = tie.close (tie.spec (λ c κs. search rules) (λ c κs. search rules) (λ c. search rules)

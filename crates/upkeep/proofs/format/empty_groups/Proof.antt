@@ -14,42 +14,36 @@ use Rattle.upkeep.proofs.Filling.{groups}
 use Rattle.upkeep.proofs.format.empty_groups.Statement.{statement}
 use Rattle.upkeep.proofs.format.empty_groups.Tie as tie
 
-abbrev invariant-loop : tie.invariant-loop
+abbrev invariant-loop : tie.invariant-loop-k
 invariant-loop state₀ d n k₀ state k = (k ≤ n) × (length state ≡ length state₀) × Shaped (numbers_of d) (read_state state) × Filled [] groups (read_state state₀) k (read_state state)
 
-abbrev decreases-loop : tie.decreases-loop
+abbrev decreases-loop : tie.decreases-loop-k
 decreases-loop state₀ d n k₀ state k = n - k
 
-abbrev in_loop : tie.After-slice-known2 invariant-loop decreases-loop → tie.In-loop invariant-loop decreases-loop
-in_loop c = c.before.before.before.before
+group_count_requires : tie.Need-group_count-n-requires invariant-loop decreases-loop
+group_count_requires c κs = c.requires.limits
 
-abbrev start : tie.After-slice-known2 invariant-loop decreases-loop → tie.Start invariant-loop decreases-loop
-start c = (in_loop c).before.before.before.before
+loop_holds : tie.Need-loop-k-init invariant-loop decreases-loop
+loop_holds c = (omega arith, refl, c.requires, fill_none [] groups _ _ (length-groups _ _ c.requires))
 
-group_count_requires : tie.Need-group-count-requires invariant-loop decreases-loop
-group_count_requires c κs = c.before.requires.limits
+empty_group_requires : tie.Need-empty_group-requires invariant-loop decreases-loop
+empty_group_requires c κs = (c.loop-k.invariant.2, omega (arith, c.group_count-n.ensures, c.loop-k-test.true))
 
-loop_holds : tie.Need-loop-init invariant-loop decreases-loop
-loop_holds c = (omega arith, refl, c.before.before.requires, fill_none [] groups _ _ (length-groups _ _ c.before.before.requires))
+add_k : tie.Need-overflow_add-k invariant-loop decreases-loop
+add_k c = omega (arith, (small _ c.requires.limits).groups, c.group_count-n.ensures)
 
-empty_group_requires : tie.Need-empty-group-requires invariant-loop decreases-loop
-empty_group_requires c κs = (c.before.before.loop.invariant.2, omega (arith, c.before.before.before.group-count.ensures, c.before.loop-test.true))
-
-add_k : tie.Need-overflow-add-k invariant-loop decreases-loop
-add_k c = omega (arith, (small _ (start c).requires.limits).groups, (in_loop c).before.before.group-count.ensures)
-
-loop_again : tie.Need-loop-preserved invariant-loop decreases-loop
+loop_again : tie.Need-loop-k-preserved invariant-loop decreases-loop
 loop_again c =
-    let turn = (in_loop c).before.loop in
-    let made = c.before.before.empty_group in (
+    let turn = c.loop-k in
+    let made = c.empty_group in (
       omega arith,
-      omega (arith, made.auto.0),
-      rw made.ensures (shaped-groups _ _ _ turn.inv.2),
-      fill_next [] groups _ _ (length-groups _ _ (start c).requires) _ _ _ turn.inv.3 (omega (arith, (in_loop c).before.before.group-count.ensures, (in_loop c).loop-test.true)) made.ensures,
+      omega (arith, made.auto.state),
+      rw made.ensures (shaped-groups _ _ _ turn.invariant.2),
+      fill_next [] groups _ _ (length-groups _ _ c.requires) _ _ _ turn.invariant.3 (omega (arith, c.group_count-n.ensures, c.loop-k-test.true)) made.ensures,
     )
 
 returns : tie.Need-returns invariant-loop decreases-loop
-returns c = fill_all [] groups _ _ (length-groups _ _ c.before.before.before.before.requires) _ _ c.before.loop.invariant.3 (omega (arith, c.before.before.group-count.ensures))
+returns c = fill_all [] groups _ _ (length-groups _ _ c.requires) _ _ c.loop-k.invariant.3 (omega (arith, c.group_count-n.ensures))
 
 pub empty_groups_spec : {M : Type 1} → statement M
 empty_groups_spec = tie.close (tie.spec invariant-loop decreases-loop group_count_requires loop_holds empty_group_requires add_k

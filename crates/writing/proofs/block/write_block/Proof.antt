@@ -9,49 +9,34 @@ use Rattle.writing.proofs.Written.{room, counted-shaped, counted-sound, records-
 use Rattle.writing.proofs.block.write_block.Statement.{statement}
 use Rattle.writing.proofs.block.write_block.Tie as tie
 
-abbrev start : tie.After-struct-known → tie.Start
-start c = c.before.before.before.before
-
-abbrev counted : tie.After-take-in-all-arg → tie.After-set-count
-counted c = c.before.before.before
-
-abbrev taken : tie.After-program-block-arg → tie.After-take-in-all
-taken c = c.before.before.before.before
-
 -- the device numbers are within their limits
 within : (c : tie.Start) → Limits (numbers_of c.args.d)
 within c = limits _ c.requires.0.0.limits
 
-mul_first : tie.Need-overflow-mul-first
-mul_first c = omega (arith, room _ _ (start c).requires.0.0 _ (start c).requires.0.3 0 (omega arith))
+mul_first : tie.Need-overflow_mul-first
+mul_first c = omega (arith, room _ _ c.requires.0.0 _ c.requires.0.3 0 (omega arith))
 
-set_count_requires : tie.Need-set-count-requires
-set_count_requires c κs = let at = start c.before in (at.pre.0.0, at.pre.0.3, omega (arith, at.pre.0.3, at.pre.1.2, (within at).most_M, (within at).most_B))
+set_count_requires : tie.Need-set_count-requires
+set_count_requires c κs = (c.requires.0.0, c.requires.0.3, omega (arith, c.requires.0.3, c.requires.1.2, (within c.before.before.before.before.before).most_M, (within c.before.before.before.before.before).most_B))
 
-take_in_all_requires : tie.Need-take-in-all-requires
+take_in_all_requires : tie.Need-take_in_all-requires
 take_in_all_requires c κs =
-    let at = start (counted c).before.before in
-    let e = (counted c).set-count.ensures in
-    let fits = room _ _ at.pre.0.0 _ at.pre.0.3 _ at.pre.1.2 in (
-      (counted-shaped _ _ at.pre.0.0 _ at.pre.0.3 _ _ e, counted-sound _ _ at.pre.0.0 _ at.pre.0.3 _ _ e at.pre.0.1),
-      (at.pre.1.0, at.pre.1.1, omega (arith, at.pre.1.2, (within at).most_B), omega (arith, fits, at.pre.0.3, at.pre.1.2, (within at).most_M, (within at).most_B)),
+    let e = c.set_count.ensures in
+    let fits = room _ _ c.requires.0.0 _ c.requires.0.3 _ c.requires.1.2 in (
+      (counted-shaped _ _ c.requires.0.0 _ c.requires.0.3 _ _ e, counted-sound _ _ c.requires.0.0 _ c.requires.0.3 _ _ e c.requires.0.1),
+      (c.requires.1.0, c.requires.1.1, omega (arith, c.requires.1.2, (within c.before.before.before.before.before.before.before.before.before).most_B), omega (arith, fits, c.requires.0.3, c.requires.1.2, (within c.before.before.before.before.before.before.before.before.before).most_M, (within c.before.before.before.before.before.before.before.before.before).most_B)),
     )
 
 -- the pass writes all the block's entries
-program_block_requires : tie.Need-program-block-requires
+program_block_requires : tie.Need-program_block-requires
 program_block_requires c κs =
-    let at = start (counted (taken c).before).before.before in
-    (at.pre.0.0.limits, at.pre.0.2, at.pre.0.3, at.pre.1.2, omega (arith, c.before.entries-per-block.ensures))
+    (c.requires.0.0.limits, c.requires.0.2, c.requires.0.3, c.requires.1.2, omega (arith, c.entries_per_block-all.ensures))
 
 returns : tie.Need-returns
-returns c =
-    let p = c.before.before in
-    let t = taken p.before in
-    let e = counted t.before in
-    let at = start e.before.before in (
-      records-taken _ _ at.pre.0.0 _ at.pre.0.3 _ _ e.set-count.ensures _ _ _ t.take-in-all.ensures (omega arith) (omega arith),
-      p.program-block.ensures.0 ∙ rw p.before.before.entries-per-block.ensures (pass_all _ _ _ _ at.pre.1.2),
-    )
+returns c = (
+  records-taken _ _ c.requires.0.0 _ c.requires.0.3 _ _ c.set_count.ensures _ _ _ c.take_in_all.ensures (omega arith) (omega arith),
+  c.program_block.ensures.0 ∙ rw c.entries_per_block-all.ensures (pass_all _ _ _ _ c.requires.1.2),
+)
 
 pub write_block_spec : {M : Type 1} → statement M
 write_block_spec = tie.close (tie.spec (λ c. search rules) mul_first set_count_requires take_in_all_requires
