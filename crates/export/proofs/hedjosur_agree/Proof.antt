@@ -5,7 +5,7 @@ use Rattle.export.proofs.hedjosur_agree.Statement.{statement}
 use Rattle.export.proofs.hedjosur_agree.Tie as tie
 
 returns : tie.Need-returns
-returns c = λ state spare. record { answer = agree_answer c.before.agree.result; ran = c.before.agree.ensures state spare; is = c.agree2.ensures }
+returns c = λ state spare. record { answer = agree_answer c.agree.result; ran = c.agree.ensures state spare; is = c.agree-2.ensures }
 
 pub hedjosur_agree_spec : {M : Type 1} → statement M
 hedjosur_agree_spec = tie.close (tie.spec (λ c κs. search rules) (λ c κs. search rules) returns)

@@ -5,7 +5,7 @@ use Rattle.export.proofs.hedjosur_collect.Statement.{statement}
 use Rattle.export.proofs.hedjosur_collect.Tie as tie
 
 collect_requires_2 : tie.Need-collect-requires-2
-collect_requires_2 c κs = ran_bounded c.before.before.before.before.before.before.before.before.collect.ensures
+collect_requires_2 c κs = ran_bounded c.collect.ensures
 
 pub hedjosur_collect_spec : {M : Type 1} → statement M
 hedjosur_collect_spec = tie.close (tie.spec (λ c κs. search rules) collect_requires_2 (λ c. search rules)

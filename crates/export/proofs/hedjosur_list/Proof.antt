@@ -6,8 +6,7 @@ use Rattle.export.proofs.hedjosur_list.Tie as tie
 
 returns : tie.Need-returns
 returns c =
-    let done = c.before.before.before in
-    λ spare. record { answer = list_answer done.list.result; ran = done.list.ensures spare; is = c.list2.ensures }
+    λ spare. record { answer = list_answer c.list.result; ran = c.list.ensures spare; is = c.list-2.ensures }
 
 pub hedjosur_list_spec : {M : Type 1} → statement M
 hedjosur_list_spec = tie.close (tie.spec (λ c κs. search rules) (λ c κs. search rules) (λ c. search rules) returns)

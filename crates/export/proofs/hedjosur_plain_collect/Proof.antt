@@ -8,16 +8,13 @@ use Rattle.export.proofs.PageAlone.{collect-whole}
 use Rattle.export.proofs.hedjosur_plain_collect.Statement.{statement}
 use Rattle.export.proofs.hedjosur_plain_collect.Tie as tie
 
-abbrev after-collect : tie.After-slice-known6 → tie.After-collect
-after-collect c = c.before.before.before.before.before.before
-
 collect_requires_2 : tie.Need-collect-requires-2
-collect_requires_2 c κs = ran_bounded (after-collect c).collect.ensures
+collect_requires_2 c κs = ran_bounded c.collect.ensures
 
 returns : tie.Need-returns
 returns c =
-    let done = (after-collect c.before).collect in
-    record { answer = collect_answer done.result; ran = done.ensures; is = c.collect2.ensures ∙ ap packed (collect-whole done.result) }
+    let done = c.collect in
+    record { answer = collect_answer done.result; ran = done.ensures; is = c.collect-2.ensures ∙ ap packed (collect-whole done.result) }
 
 pub hedjosur_plain_collect_spec : {M : Type 1} → statement M
 hedjosur_plain_collect_spec = tie.close (tie.spec (λ c κs. search rules) collect_requires_2 (λ c. search rules)

@@ -9,8 +9,8 @@ use Rattle.export.proofs.hedjosur_plain_discard.Tie as tie
 
 returns : tie.Need-returns
 returns c =
-    let done = c.before.before.before.discard in
-    record { answer = discard_answer done.result; ran = done.ensures; is = c.discard2.ensures ∙ ap packed (discard-whole done.result) }
+    let done = c.discard in
+    record { answer = discard_answer done.result; ran = done.ensures; is = c.discard-2.ensures ∙ ap packed (discard-whole done.result) }
 
 pub hedjosur_plain_discard_spec : {M : Type 1} → statement M
 hedjosur_plain_discard_spec = tie.close (tie.spec (λ c κs. search rules) (λ c κs. search rules) (λ c. search rules) returns)

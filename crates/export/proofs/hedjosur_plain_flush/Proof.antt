@@ -9,8 +9,8 @@ use Rattle.export.proofs.hedjosur_plain_flush.Tie as tie
 
 returns : tie.Need-returns
 returns c =
-    let done = c.before.before.before.before.before.flush in
-    record { answer = flush_answer done.result; ran = done.ensures; is = c.flush2.ensures ∙ ap packed (flush-whole done.result) }
+    let done = c.flush in
+    record { answer = flush_answer done.result; ran = done.ensures; is = c.flush-2.ensures ∙ ap packed (flush-whole done.result) }
 
 pub hedjosur_plain_flush_spec : {M : Type 1} → statement M
 hedjosur_plain_flush_spec = tie.close (tie.spec (λ c κs. search rules) (λ c κs. search rules) (λ c. search rules) (λ c. search rules) returns)

@@ -7,16 +7,16 @@ use Rattle.export.proofs.Lengths.{within, outside}
 use Rattle.export.proofs.hedjosur_state_len.Statement.{statement}
 use Rattle.export.proofs.hedjosur_state_len.Tie as tie
 
-returns : tie.Need-returns
+returns : tie.Need-returns-then-not-within_limits
 unfolding state_len
-returns c = outside _ _ (sym c.before.within-limits.ensures ∙ not-true c.before.within-limits.result c.if1.true)
+returns c = outside _ _ (sym c.within_limits.ensures ∙ c.if-not-within_limits.true)
 
-state_len_requires : tie.Need-state-len-requires
-state_len_requires c κs = sym c.before.within-limits.ensures ∙ not-false c.before.within-limits.result c.if1.false
+state_len_requires : tie.Need-state_len-requires
+state_len_requires c κs = sym c.within_limits.ensures ∙ c.if-not-within_limits.false
 
-returns_2 : tie.Need-returns-2
+returns_2 : tie.Need-returns
 unfolding state_len
-returns_2 c = within _ _ _ (sym c.before.before.within-limits.ensures ∙ not-false c.before.before.within-limits.result c.before.if1.false) c.state-len.ensures
+returns_2 c = within _ _ _ (sym c.within_limits.ensures ∙ c.if-not-within_limits.false) c.state_len.ensures
 
 pub hedjosur_state_len_spec : {M : Type 1} → statement M
 hedjosur_state_len_spec = tie.close (tie.spec (λ c κs. search rules) returns state_len_requires returns_2)

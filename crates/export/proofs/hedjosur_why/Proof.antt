@@ -6,8 +6,7 @@ use Rattle.export.proofs.hedjosur_why.Tie as tie
 
 returns : tie.Need-returns
 returns c =
-    let done = c.before.before.before in
-    λ spare. record { answer = why_answer done.why.result; ran = done.why.ensures spare; is = c.why2.ensures }
+    λ spare. record { answer = why_answer c.why.result; ran = c.why.ensures spare; is = c.why-2.ensures }
 
 pub hedjosur_why_spec : {M : Type 1} → statement M
 hedjosur_why_spec = tie.close (tie.spec (λ c κs. search rules) (λ c κs. search rules) (λ c. search rules) returns)

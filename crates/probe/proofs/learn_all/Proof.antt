@@ -15,42 +15,42 @@ use Rattle.probe.proofs.Bytes.{Bytes, bytes-start, bytes_next, bytes_all}
 use Rattle.probe.proofs.learn_all.Statement.{statement}
 use Rattle.probe.proofs.learn_all.Tie as tie
 
-abbrev invariant-loop : tie.invariant-loop
+abbrev invariant-loop : tie.invariant-loop-i
 invariant-loop written first g out₀ taken₀ i₀ n₀ out taken i n = Stored (bounds_of g first written) written taken₀ taken i n × Bytes (bounds_of g first written) written out₀ out i n
 
-abbrev decreases-loop : tie.decreases-loop
+abbrev decreases-loop : tie.decreases-loop-i
 decreases-loop written first g out₀ taken₀ i₀ n₀ out taken i n = length written - i
 
 -- the run at the place
-run : (c : tie.In-loop invariant-loop decreases-loop) → Held (length c.before.before.before.before.before.args.written.now - c.before.loop.i) (run_at (bounds_of c.before.before.before.before.before.args.g c.before.before.before.before.before.args.first c.before.before.before.before.before.args.written.now) c.before.before.before.before.before.args.written.now c.before.loop.i)
-run c = held _ _ _ c.loop-test.true c.before.before.before.before.before.requires.0.0 (omega (arith, c.loop-test.true))
+run : (c : tie.In-loop-i invariant-loop decreases-loop) → Held (length c.args.written.now - c.loop-i.i) (run_at (bounds_of c.args.g c.args.first c.args.written.now) c.args.written.now c.loop-i.i)
+run c = held _ _ _ c.loop-i-test.true c.requires.0.0 (omega (arith, c.loop-i-test.true))
 
 encode_requires : tie.Need-encode-requires invariant-loop decreases-loop
-encode_requires c κs = (omega (arith, c.before.before.before.before.loop.invariant.1.kept, c.before.before.before.before.loop.invariant.0.few, c.before.before.before.loop-test.true, c.before.before.before.before.before.before.before.before.requires.1.0), subst (λ (r : Record). InEight r) (sym c.before.before.run_at.ensures.0) (run c.before.before.before).bytes)
+encode_requires c κs = (omega (arith, c.loop-i.invariant.1.kept, c.loop-i.invariant.0.few, c.loop-i-test.true, c.requires.1.0), subst (λ (r : Record). InEight r) (sym c.run_at-r.ensures.0) (run c.before.before.before).bytes)
 
-cast_taken : tie.Need-overflow-cast-taken invariant-loop decreases-loop
-cast_taken c = omega (arith, c.before.before.before.before.before.before.run_at.ensures.1, (run c.before.before.before.before.before.before.before).inside, c.before.before.before.before.before.before.before.before.before.before.before.before.requires.0.1)
+cast_taken : tie.Need-overflow_cast-taken invariant-loop decreases-loop
+cast_taken c = omega (arith, c.run_at-r.ensures.1, (run c.before.before.before.before.before.before.before).inside, c.requires.0.1)
 
-add_i : tie.Need-overflow-add-i invariant-loop decreases-loop
-add_i c = omega (arith, c.before.before.before.before.before.before.before.run_at.ensures.1, (run c.before.before.before.before.before.before.before.before).inside, c.before.before.before.before.before.before.before.before.before.before.before.before.before.requires.0.1)
+add_i : tie.Need-overflow_add-i invariant-loop decreases-loop
+add_i c = omega (arith, c.run_at-r.ensures.1, (run c.before.before.before.before.before.before.before.before).inside, c.requires.0.1)
 
-loop_less : tie.Need-loop-smaller invariant-loop decreases-loop
-loop_less c = omega (arith, c.before.before.before.before.before.before.before.run_at.ensures.1, (run c.before.before.before.before.before.before.before.before).inside, (run c.before.before.before.before.before.before.before.before).filled)
+loop_less : tie.Need-loop-i-smaller invariant-loop decreases-loop
+loop_less c = omega (arith, c.run_at-r.ensures.1, (run c.before.before.before.before.before.before.before.before).inside, (run c.before.before.before.before.before.before.before.before).filled)
 
-loop_again : tie.Need-loop-preserved invariant-loop decreases-loop
+loop_again : tie.Need-loop-i-preserved invariant-loop decreases-loop
 loop_again c =
-    let e = c.before.before.before.before.before.before.before.run_at.ensures in
+    let e = c.run_at-r.ensures in
     let h = run c.before.before.before.before.before.before.before.before in
-    let so = c.before.before.before.before.before.before.before.before.before.loop.invariant in
-    let less = c.before.before.before.before.before.before.before.before.loop-test.true in
-    (stored_next _ _ _ _ _ _ so.0 less h.filled _ e.1 (omega (arith, e.1, h.inside)), bytes_next _ _ _ _ _ _ so.0 _ _ so.1 less h.filled _ e.1 _ e.0 _ c.before.before.before.before.encode.ensures)
+    let so = c.loop-i.invariant in
+    let less = c.loop-i-test.true in
+    (stored_next _ _ _ _ _ _ so.0 less h.filled _ e.1 (omega (arith, e.1, h.inside)), bytes_next _ _ _ _ _ _ so.0 _ _ so.1 less h.filled _ e.1 _ e.0 _ c.encode.ensures)
 
 returns : tie.Need-returns invariant-loop decreases-loop
 unfolding learn
 returns c =
-    let so = c.before.loop.invariant in
-    let e = stored_all _ _ _ _ _ _ so.0 c.loop-test.false in
-    (e.0, (bytes_all _ _ _ _ _ _ so.0 _ _ so.1 c.loop-test.false, e.1))
+    let so = c.loop-i.invariant in
+    let e = stored_all _ _ _ _ _ _ so.0 c.loop-i-test.false in
+    (e.0, (bytes_all _ _ _ _ _ _ so.0 _ _ so.1 c.loop-i-test.false, e.1))
 
 pub learn_all_spec : {M : Type 1} → statement M
 learn_all_spec = tie.close (tie.spec invariant-loop decreases-loop (λ c. search (stored-start, bytes-start, rules))

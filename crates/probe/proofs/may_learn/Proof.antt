@@ -5,25 +5,25 @@ use borrow.Author.Rules.{rules}
 use Rattle.probe.proofs.may_learn.Statement.{statement}
 use Rattle.probe.proofs.may_learn.Tie as tie
 
-returns : tie.Need-returns
-returns c = many _ _ _ _ _ c.if1.true
+returns : tie.Need-returns-then-n-gt-BATCH
+returns c = many _ _ _ _ _ c.if-n-gt-BATCH.true
 
-returns_2 : tie.Need-returns-2
+returns_2 : tie.Need-returns-then-first-gt-PAGES
 returns_2 c = too_far _ _ _ _ _ (omega arith) (omega arith)
 
-returns_3 : tie.Need-returns-3
+returns_3 : tie.Need-returns-then-first-n-gt-PAGES
 returns_3 c = too_far _ _ _ _ _ (omega arith) (omega arith)
 
-returns_4 : tie.Need-returns-4
-returns_4 c = wide _ _ _ _ _ (omega arith) (omega arith) c.if4.true
+returns_4 : tie.Need-returns-then-g-gt-BOUND
+returns_4 c = wide _ _ _ _ _ (omega arith) (omega arith) c.if-g-gt-BOUND.true
 
-returns_5 : tie.Need-returns-5
-returns_5 c = no_bytes _ _ _ _ _ (omega arith) (omega arith) (omega arith) c.if5.true
+returns_5 : tie.Need-returns-then-o-n
+returns_5 c = no_bytes _ _ _ _ _ (omega arith) (omega arith) (omega arith) c.if-o-n.true
 
-returns_6 : tie.Need-returns-6
-returns_6 c = no_counts _ _ _ _ _ (omega arith) (omega arith) (omega arith) (omega arith) c.if6.true
+returns_6 : tie.Need-returns-then-t-n
+returns_6 c = no_counts _ _ _ _ _ (omega arith) (omega arith) (omega arith) (omega arith) c.if-t-n.true
 
-returns_7 : tie.Need-returns-7
+returns_7 : tie.Need-returns
 returns_7 c = order_decides _ _ _ _ _ (omega arith) (omega arith) (omega arith) (omega arith) (omega arith) _ c.ascends.ensures
 
 pub may_learn_spec : {M : Type 1} → statement M

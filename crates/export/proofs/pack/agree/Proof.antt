@@ -7,17 +7,17 @@ use Rattle.export.specs.Packing.{packed}
 use Rattle.export.proofs.pack.agree.Statement.{statement}
 use Rattle.export.proofs.pack.agree.Tie as tie
 
-returns : tie.Need-returns
+returns : tie.Need-returns-in-Yes
 unfolding packed agree_answer
-returns c = sym (ap (λ (a : Agreed). packed (agree_answer a)) c.enum_told.given.1)
+returns c = sym (ap (λ (a : Agreed). packed (agree_answer a)) c.in-Yes.is)
 
-returns_2 : tie.Need-returns-2
+returns_2 : tie.Need-returns-in-No
 unfolding packed agree_answer
-returns_2 c = sym (ap (λ (a : Agreed). packed (agree_answer a)) c.enum-told2.given.1)
+returns_2 c = sym (ap (λ (a : Agreed). packed (agree_answer a)) c.in-No.is)
 
-returns_3 : tie.Need-returns-3
+returns_3 : tie.Need-returns-in-Refused
 unfolding agree_answer
-returns_3 c = c.refused.ensures ∙ sym (ap (λ (a : Agreed). packed (agree_answer a)) c.before.before.a.given.1)
+returns_3 c = c.refused.ensures ∙ sym (ap (λ (a : Agreed). packed (agree_answer a)) c.in-Refused.is)
 
 pub agree_spec : {M : Type 1} → statement M
 agree_spec = tie.close (tie.spec (λ c. search rules) (λ c. search rules) (λ c. search rules) (λ c κs. search rules)

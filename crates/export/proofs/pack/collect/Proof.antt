@@ -11,26 +11,26 @@ use Rattle.export.proofs.pack.collect.Statement.{statement}
 use Rattle.export.proofs.pack.collect.Tie as tie
 
 -- what the fields hold
-bounds : (c : tie.After-known-told) → (c.before.a.given.0.0 < page_limit) × (c.before.a.given.0.1.0 ≤ 256) × (c.before.a.given.0.1.1.0 ≤ 4096)
+bounds : (c : tie.In-Done) → (c.in-Done.p < page_limit) × (c.in-Done.n ≤ 256) × (c.in-Done.e ≤ 4096)
 unfolding Bounded collect_answer
-bounds c = subst (λ (a : Collected). Bounded (collect_answer a)) c.before.a.given.1 c.before.before.before.requires
+bounds c = subst (λ (a : Collected). Bounded (collect_answer a)) c.in-Done.is c.requires
 
-mul_result : tie.Need-overflow-mul-result
+mul_result : tie.Need-overflow_mul-result
 mul_result c = omega (arith, bounds c)
 
-add_result : tie.Need-overflow-add-result
+add_result : tie.Need-overflow_add-result
 add_result c = omega (arith, bounds c)
 
-add_result_2 : tie.Need-overflow-add-result-2
+add_result_2 : tie.Need-overflow_add-result-in-Done
 add_result_2 c = omega (arith, bounds c)
 
-returns : tie.Need-returns
+returns : tie.Need-returns-in-Done
 unfolding packed collect_answer
-returns c = sym (ap (λ (a : Collected). packed (collect_answer a)) c.before.a.given.1)
+returns c = sym (ap (λ (a : Collected). packed (collect_answer a)) c.in-Done.is)
 
-returns_2 : tie.Need-returns-2
+returns_2 : tie.Need-returns-in-Refused
 unfolding collect_answer
-returns_2 c = c.refused.ensures ∙ sym (ap (λ (a : Collected). packed (collect_answer a)) c.before.before.a2.given.1)
+returns_2 c = c.refused.ensures ∙ sym (ap (λ (a : Collected). packed (collect_answer a)) c.in-Refused.is)
 
 pub collect_spec : {M : Type 1} → statement M
 collect_spec = tie.close (tie.spec (λ c. search rules) (λ c. search rules) mul_result (λ c. search rules)

@@ -7,17 +7,17 @@ use Rattle.export.specs.Packing.{packed, page_alone}
 use Rattle.export.proofs.pack.plain_lookup.Statement.{statement}
 use Rattle.export.proofs.pack.plain_lookup.Tie as tie
 
-returns : tie.Need-returns
+returns : tie.Need-returns-in-Found
 unfolding packed page_alone plain_lookup_answer
-returns c = sym (ap (λ (a : PlainLookup). packed (page_alone (plain_lookup_answer a))) c.before.a.given.1)
+returns c = sym (ap (λ (a : PlainLookup). packed (page_alone (plain_lookup_answer a))) c.in-Found.is)
 
-returns_2 : tie.Need-returns-2
+returns_2 : tie.Need-returns-in-NotWritten
 unfolding packed page_alone plain_lookup_answer
-returns_2 c = sym (ap (λ (a : PlainLookup). packed (page_alone (plain_lookup_answer a))) c.enum_told.given.1)
+returns_2 c = sym (ap (λ (a : PlainLookup). packed (page_alone (plain_lookup_answer a))) c.in-NotWritten.is)
 
-returns_3 : tie.Need-returns-3
+returns_3 : tie.Need-returns-in-Refused
 unfolding page_alone plain_lookup_answer
-returns_3 c = c.refused.ensures ∙ sym (ap (λ (a : PlainLookup). packed (page_alone (plain_lookup_answer a))) c.before.before.a2.given.1)
+returns_3 c = c.refused.ensures ∙ sym (ap (λ (a : PlainLookup). packed (page_alone (plain_lookup_answer a))) c.in-Refused.is)
 
 pub plain_lookup_spec : {M : Type 1} → statement M
 plain_lookup_spec = tie.close (tie.spec (λ c. search rules) (λ c. search rules) (λ c. search rules) (λ c. search rules)

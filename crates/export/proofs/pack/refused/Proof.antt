@@ -7,7 +7,7 @@ use Rattle.export.specs.Packing.{packed, bit60}
 use Rattle.export.proofs.pack.refused.Statement.{statement}
 use Rattle.export.proofs.pack.refused.Tie as tie
 
-mul_result : tie.Need-overflow-mul-result
+mul_result : tie.Need-overflow_mul-result
 mul_result c = omega (arith, c.number.ensures.1)
 
 returns : tie.Need-returns

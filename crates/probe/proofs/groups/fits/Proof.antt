@@ -10,23 +10,23 @@ use Rattle.probe.proofs.Masks.{not_shaped, not_ends, all_tests}
 use Rattle.probe.proofs.groups.fits.Statement.{statement}
 use Rattle.probe.proofs.groups.fits.Tie as tie
 
-shape : (c : tie.Else1) → shaped 256 c.before.before.before.args.r ≡ true
-shape c = sym c.before.shaped.ensures ∙ not-false _ c.if1.false
+shape : (c : tie.Else-not-shaped) → shaped 256 c.args.r ≡ true
+shape c = sym c.shaped.ensures ∙ c.if-not-shaped.false
 
-returns : tie.Need-returns
-returns c = not_shaped _ _ (sym c.before.shaped.ensures ∙ not-true _ c.if1.true)
+returns : tie.Need-returns-then-not-shaped
+returns c = not_shaped _ _ (sym c.shaped.ensures ∙ c.if-not-shaped.true)
 
-ends_masked_requires : tie.Need-ends-masked-requires
-ends_masked_requires c κs = (c.before.before.before.requires.0, omega (arith, shaped-below 256 _ (shape c)))
+ends_masked_requires : tie.Need-ends_masked-requires
+ends_masked_requires c κs = (c.requires.0, omega (arith, shaped-below 256 _ (shape c)))
 
-returns_2 : tie.Need-returns-2
-returns_2 c = not_ends _ _ (sym c.before.ends-masked.ensures ∙ not-true _ c.if2.true)
+returns_2 : tie.Need-returns-then-not-ends_masked
+returns_2 c = not_ends _ _ (sym c.ends_masked.ensures ∙ c.if-not-ends_masked.true)
 
-all_masked_requires : tie.Need-all-masked-requires
-all_masked_requires c κs = (c.before.before.before.before.before.requires.0, shape c.before.before, c.before.before.before.before.before.requires.1)
+all_masked_requires : tie.Need-all_masked-requires
+all_masked_requires c κs = (c.requires.0, shape c.before.before, c.requires.1)
 
-returns_3 : tie.Need-returns-3
-returns_3 c = all_tests _ _ (shape c.before.before.before) (sym c.before.before.ends-masked.ensures ∙ not-false _ c.before.if2.false) _ c.all-masked.ensures
+returns_3 : tie.Need-returns
+returns_3 c = all_tests _ _ (shape c.before.before.before) (sym c.ends_masked.ensures ∙ c.if-not-ends_masked.false) _ c.all_masked.ensures
 
 pub fits_spec : {M : Type 1} → statement M
 fits_spec = tie.close (tie.spec (λ c κs. search rules) returns ends_masked_requires returns_2 all_masked_requires

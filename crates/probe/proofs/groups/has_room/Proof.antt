@@ -9,13 +9,13 @@ use Rattle.probe.proofs.Conditions.{size, sound, no_room, room}
 use Rattle.probe.proofs.groups.has_room.Statement.{statement}
 use Rattle.probe.proofs.groups.has_room.Tie as tie
 
-is_group : (c : tie.Else1) → is_sound c.before.before.before.args.part.now ≡ true
-is_group c = sym c.before.is-sound.ensures ∙ not-false _ c.if1.false
+is_group : (c : tie.Else-not-is_sound) → is_sound c.args.part.now ≡ true
+is_group c = sym c.is_sound.ensures ∙ c.if-not-is_sound.false
 
-returns : tie.Need-returns
-returns c = no_room _ (sym c.before.is-sound.ensures ∙ not-true _ c.if1.true)
+returns : tie.Need-returns-then-not-is_sound
+returns c = no_room _ (sym c.is_sound.ensures ∙ c.if-not-is_sound.true)
 
-record_count_requires : tie.Need-record-count-requires
+record_count_requires : tie.Need-record_count-requires
 record_count_requires c κs = (size _ (is_group c), sound-encodes 256 0 _ (sound _ (is_group c)))
 
 pub has_room_spec : {M : Type 1} → statement M

@@ -8,11 +8,11 @@ use Rattle.probe.proofs.Insertion.{no_room, not_eight, no_mask, by_fitting}
 use Rattle.probe.proofs.groups.may_insert.Statement.{statement}
 use Rattle.probe.proofs.groups.may_insert.Tie as tie
 
-room : (c : tie.Else1) → has_room c.before.before.before.before.before.args.part.now ≡ true
-room c = sym c.before.has_room.ensures ∙ not-false _ c.if1.false
+room : (c : tie.Else-not-has_room) → has_room c.args.part.now ≡ true
+room c = sym c.has_room.ensures ∙ c.if-not-has_room.false
 
-returns : tie.Need-returns
-returns c = no_room _ _ _ (sym c.before.has_room.ensures ∙ not-true _ c.if1.true)
+returns : tie.Need-returns-then-not-has_room
+returns c = no_room _ _ _ (sym c.has_room.ensures ∙ c.if-not-has_room.true)
 
 pub may_insert_spec : {M : Type 1} → statement M
 may_insert_spec = tie.close (tie.spec (λ c κs. search rules) returns (λ c. search (not_eight, room, rules))

@@ -6,13 +6,13 @@ use Rattle.probe.specs.Groups.{bit}
 use Rattle.probe.proofs.groups.one_if_set.Statement.{statement}
 use Rattle.probe.proofs.groups.one_if_set.Tie as tie
 
-returns : tie.Need-returns
+returns : tie.Need-returns-then-byte-eq0
 unfolding bit
-returns c = ap (λ (t : Bool). bit (not t)) (sym (eq-eqb _ _ c.if1.true))
+returns c = ap (λ (t : Bool). bit (not t)) (sym (eq-eqb _ _ c.if-byte-eq0.true))
 
-returns_2 : tie.Need-returns-2
+returns_2 : tie.Need-returns
 unfolding bit
-returns_2 c = ap (λ (t : Bool). bit (not t)) (sym (ne_eqb _ _ c.if1.false))
+returns_2 c = ap (λ (t : Bool). bit (not t)) (sym (ne_eqb _ _ c.if-byte-eq0.false))
 
 pub one_if_set_spec : {M : Type 1} → statement M
 one_if_set_spec = tie.close (tie.spec returns returns_2)

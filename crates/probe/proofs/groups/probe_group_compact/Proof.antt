@@ -8,18 +8,18 @@ use Rattle.probe.proofs.Conditions.{size, sound, not_compacted, compacted}
 use Rattle.probe.proofs.groups.probe_group_compact.Statement.{statement}
 use Rattle.probe.proofs.groups.probe_group_compact.Tie as tie
 
-is_group : (c : tie.Else1) → is_sound c.before.before.before.before.args.part.now ≡ true
-is_group c = sym c.before.is-sound.ensures ∙ not-false _ c.if1.false
+is_group : (c : tie.Else-not-is_sound) → is_sound c.args.part.now ≡ true
+is_group c = sym c.is_sound.ensures ∙ c.if-not-is_sound.false
 
-returns : tie.Need-returns
-returns c = not_compacted _ (sym c.before.is-sound.ensures ∙ not-true _ c.if1.true)
+returns : tie.Need-returns-then-not-is_sound
+returns c = not_compacted _ (sym c.is_sound.ensures ∙ c.if-not-is_sound.true)
 
 compact_requires : tie.Need-compact-requires
 compact_requires c κs = let h = is_group c.before in record { N = 256; number = 0; size = size _ h; sound = sound _ h }
 
-returns_2 : tie.Need-returns-2
+returns_2 : tie.Need-returns
 returns_2 c =
-    let e = c.before.before.compact.ensures in
+    let e = c.compact.ensures in
     compacted _ (is_group c.before.before.before.before) _ _ e.1 e.2
 
 pub probe_group_compact_spec : {M : Type 1} → statement M

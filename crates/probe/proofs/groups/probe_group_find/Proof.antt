@@ -12,41 +12,41 @@ use Rattle.probe.proofs.Conditions.{size, sound, not_sound_lem, not_below, level
 use Rattle.probe.proofs.groups.probe_group_find.Statement.{statement}
 use Rattle.probe.proofs.groups.probe_group_find.Tie as tie
 
-is_group : (c : tie.Else1) → is_sound c.before.before.before.args.part.now ≡ true
-is_group c = sym c.before.is-sound.ensures ∙ not-false _ c.if1.false
+is_group : (c : tie.Else-not-is_sound) → is_sound c.args.part.now ≡ true
+is_group c = sym c.is_sound.ensures ∙ c.if-not-is_sound.false
 
 -- how many levels were looked at
-levels : (c : tie.After-known-told) → c.before.hit.given.0.1.0 ≤ 512
+levels : (c : tie.In-At) → c.in-At.n ≤ 512
 unfolding looked_of
 levels c =
-    levels_bounded _ _ (is_group c.before.before.before.before.before) c.before.before.before.before.if2.false c.before.before.before.find.result _ c.before.before.before.find.ensures.1
-    (ap (λ (x : Hit). looked_of x) c.before.hit.given.1)
+    levels_bounded _ _ (is_group c.before.before.before) c.if-o-ge-OFFSETS.false c.find-hit.result _ c.find-hit.ensures.1
+    (ap (λ (x : Hit). looked_of x) c.in-At.is)
 
-all_levels : (c : tie.After-known-told2) → c.before.hit2.given.0.0 ≤ 512
+all_levels : (c : tie.In-Nowhere) → c.in-Nowhere.n ≤ 512
 unfolding looked_of
 all_levels c =
-    levels_bounded _ _ (is_group c.before.before.before.before.before) c.before.before.before.before.if2.false c.before.before.before.find.result _ c.before.before.before.find.ensures.1
-    (ap (λ (x : Hit). looked_of x) c.before.hit2.given.1)
+    levels_bounded _ _ (is_group c.before.before.before) c.if-o-ge-OFFSETS.false c.find-hit.result _ c.find-hit.ensures.1
+    (ap (λ (x : Hit). looked_of x) c.in-Nowhere.is)
 
-returns : tie.Need-returns
-returns c = not_sound_lem _ _ (sym c.before.is-sound.ensures ∙ not-true _ c.if1.true)
+returns : tie.Need-returns-then-not-is_sound
+returns c = not_sound_lem _ _ (sym c.is_sound.ensures ∙ c.if-not-is_sound.true)
 
-find_requires : tie.Need-find-requires
-find_requires c κs = (size _ (is_group c.before), record { pages = 256; number = 0; sound = sound _ (is_group c.before) }, c.if2.false)
+find_requires : tie.Need-find-hit-requires
+find_requires c κs = (size _ (is_group c.before), record { pages = 256; number = 0; sound = sound _ (is_group c.before) }, c.if-o-ge-OFFSETS.false)
 
-mul_result : tie.Need-overflow-mul-result
+mul_result : tie.Need-overflow_mul-result
 mul_result c = omega (arith, levels c)
 
-add_result : tie.Need-overflow-add-result
+add_result : tie.Need-overflow_add-result
 add_result c = omega (arith, levels c)
 
-add_result_2 : tie.Need-overflow-add-result-2
+add_result_2 : tie.Need-overflow_add-result-in-At
 add_result_2 c = omega (arith, levels c.before)
 
-add_result_3 : tie.Need-overflow-add-result-3
+add_result_3 : tie.Need-overflow_add-result-in-At-2
 add_result_3 c = omega (arith, levels c.before.before)
 
-mul_result_3 : tie.Need-overflow-mul-result-3
+mul_result_3 : tie.Need-overflow_mul-result-in-Nowhere
 mul_result_3 c = omega (arith, all_levels c)
 
 pub probe_group_find_spec : {M : Type 1} → statement M

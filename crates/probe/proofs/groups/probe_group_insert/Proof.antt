@@ -9,17 +9,17 @@ use Rattle.probe.proofs.Insertion.{not_inserted, has-eight, has-size, ready, sti
 use Rattle.probe.proofs.groups.probe_group_insert.Statement.{statement}
 use Rattle.probe.proofs.groups.probe_group_insert.Tie as tie
 
-may : (c : tie.Else1) → insertable c.before.before.before.before.before.before.args.part.now c.before.before.before.before.before.before.args.eight.now c.before.before.before.before.before.before.args.mask.now ≡ true
-may c = sym c.before.may-insert.ensures ∙ not-false _ c.if1.false
+may : (c : tie.Else-not-may_insert) → insertable c.args.part.now c.args.eight.now c.args.mask.now ≡ true
+may c = sym c.may_insert.ensures ∙ c.if-not-may_insert.false
 
-returns : tie.Need-returns
-returns c = not_inserted _ _ _ (sym c.before.may-insert.ensures ∙ not-true _ c.if1.true)
+returns : tie.Need-returns-then-not-may_insert
+returns c = not_inserted _ _ _ (sym c.may_insert.ensures ∙ c.if-not-may_insert.true)
 
-decode_requires : tie.Need-decode-requires
+decode_requires : tie.Need-decode-r-requires
 decode_requires c κs = omega (arith, has-eight _ _ _ (may c))
 
-record_count_requires : tie.Need-record-count-requires
-record_count_requires c κs = (c.before.before.before.insert.auto.0 ∙ has-size _ _ _ (may c.before.before.before.before.before.before), still_encodes _ _ _ (may c.before.before.before.before.before.before) _ c.before.before.before.before.before.decode.ensures.0 _ c.before.before.before.insert.ensures)
+record_count_requires : tie.Need-record_count-requires
+record_count_requires c κs = (c.insert.auto.b ∙ has-size _ _ _ (may c.before.before.before.before.before), still_encodes _ _ _ (may c.before.before.before.before.before) _ c.decode-r.ensures.0 _ c.insert.ensures)
 
 pub probe_group_insert_spec : {M : Type 1} → statement M
 probe_group_insert_spec = tie.close (tie.spec (λ c κs. search rules) (λ c. search rules) returns decode_requires
