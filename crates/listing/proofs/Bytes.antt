@@ -1,12 +1,12 @@
 -- A byte taken: a newline ends the line, any other byte goes into the line buffer while that has room. Assumes nothing.
-use mathlib.Core.Path.{◌≡◌, refl, sym, ap, ◌∙◌}
+use mathlib.Core.Path.{◌≡◌, refl, sym, ◌∙◌}
 use mathlib.Core.List.{List, [], ◌∷◌, ◌++◌}
 use Prim.Native.Nat.{ℕ, ◌+◌, ◌≤◌, ◌<◌}
 use native.Mathlib.Omega.{arith}
 use native.Mathlib.Numerals.{add-one}
 use borrow.Author.Tests.{ne_eqb, lt-ltb, le-ltb}
-use lib.ListN.{length, get_or, set, take, drop, length-set, drop_of_length-le}
-use lib.Seq.{length-take-le, take-suc-set, drop-cons}
+use lib.ListN.{length, set, take, length-set}
+use lib.Seq.{length-take-le, take-suc-set}
 use Rattle.octets.specs.Little.{le16, le32}
 use Rattle.front.specs.Reading.{numbers_at}
 use Rattle.state.specs.Reading.{read_state}
@@ -16,7 +16,7 @@ use Rattle.listing.specs.declared.session.Cursor.{Cursor}
 use Rattle.listing.specs.Sizes.{line_room, state_room, spare_room, reply_room}
 use Rattle.listing.specs.Session.{reply_to, newline}
 use Rattle.listing.specs.Memory.{in_use, Replied}
-use Rattle.listing.specs.Progress.{Progress, longer, took, took_prints, fed, ending, progress, Going, Stepped}
+use Rattle.listing.specs.Progress.{Progress, longer, took, took_prints, ending, progress, Going, Stepped}
 use Rattle.listing.proofs.Replies.{laid_nothing, replied_as, replied_same}
 
 -- a newline ends the line
@@ -108,15 +108,6 @@ module _ (c : Cursor) (line state spare out : List ℕ) (g : Going c line state 
 -- the output is handed over
 pub going_on : {line state spare out : List ℕ} (c : Cursor) (n : ℕ) → Going c line state spare out → Going (record { held = c.held; filled = c.filled; laid = n }) line state spare out
 going_on c n g = record { ready = g.ready; buffer = g.buffer; come = g.come; room = g.room }
-
--- bytes taken one after the other: what is left to take makes the whole
-pub fed-turn : (bytes : List ℕ) (i : ℕ) (p q all : Progress) → i < length bytes → q ≡ took (get_or bytes i 0) p → fed (drop i bytes) p ≡ all → fed (drop (i + 1) bytes) q ≡ all
-unfolding fed
-fed-turn bytes i p q all h e f = rw (e, add-one i) (sym (ap (λ (l : List ℕ). fed l p) (drop-cons bytes i 0 h)) ∙ f)
-
-pub fed_all : (bytes : List ℕ) (i : ℕ) (p all : Progress) → length bytes ≤ i → fed (drop i bytes) p ≡ all → p ≡ all
-unfolding fed
-fed_all bytes i p all h f = sym (ap (λ (l : List ℕ). fed l p) (drop_of_length-le bytes h)) ∙ f
 
 -- nothing is in use at first
 abbrev pub first : Cursor

@@ -8,4 +8,5 @@ pub mod Replies
 pub mod Listed
 pub mod Bytes
 pub mod Transcript
+pub mod Running
 pub mod Examples

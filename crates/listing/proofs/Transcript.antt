@@ -3,12 +3,13 @@
 use mathlib.Core.Path.{◌≡◌, refl, sym, ap, ◌∙◌}
 use mathlib.Core.List.{List, [], ◌∷◌, ◌++◌, append_assoc, append-nil}
 use mathlib.Core.Bool.{Bool, true, false}
-use Prim.Native.Nat.{ℕ, ◌≤◌, ◌<◌}
+use Prim.Native.Nat.{ℕ, ◌+◌, ◌≤◌, ◌<◌}
 use native.Mathlib.Omega.{arith}
+use native.Mathlib.Numerals.{add-one}
 use borrow.Author.Tests.{eqb-true, eqb-false, ne_eqb, lt-ltb, le-ltb, ltb-true, ltb-false}
 use lib.Dec.{ltb, eqb}
-use lib.ListN.{length, take, length-append}
-use lib.Seq.{take_all, take-append-le, length-take-le}
+use lib.ListN.{length, get_or, take, length-append}
+use lib.Seq.{take-suc, take_all, take-append-le, length-take-le}
 use Rattle.model.specs.Sound.{is_empty}
 use Rattle.lines.specs.Script.{ScriptLine, line_of}
 use Rattle.lines.proofs.Lines.{long-bad}
@@ -116,12 +117,25 @@ unfolding fed
 fed_then [] ds p = refl
 fed_then (c ∷ cs) ds p = fed_then cs ds (took c p)
 
-prints_then : (cs ds : List ℕ) (p : Progress) → fed_prints (cs ++ ds) p ≡ fed_prints cs p ++ fed_prints ds (fed cs p)
+pub prints_then : (cs ds : List ℕ) (p : Progress) → fed_prints (cs ++ ds) p ≡ fed_prints cs p ++ fed_prints ds (fed cs p)
 unfolding fed fed_prints
 prints_then [] ds p = refl
 prints_then (c ∷ cs) ds p =
     ap (λ (l : List ℕ). took_prints c p ++ l) (prints_then cs ds (took c p))
     ∙ sym (append_assoc (took_prints c p) (fed_prints cs (took c p)) (fed_prints ds (fed cs (took c p))))
+
+-- one byte more
+pub fed_next : (bytes : List ℕ) (i : ℕ) (p : Progress) → i < length bytes → fed (take (i + 1) bytes) p ≡ took (get_or bytes i 0) (fed (take i bytes) p)
+unfolding fed
+fed_next bytes i p h = rw (add-one i, take-suc bytes i 0 h) (fed_then (take i bytes) (get_or bytes i 0 ∷ []) p)
+
+pub prints_next : (bytes : List ℕ) (i : ℕ) (p : Progress) → i < length bytes
+    → fed_prints (take (i + 1) bytes) p ≡ fed_prints (take i bytes) p ++ took_prints (get_or bytes i 0) (fed (take i bytes) p)
+unfolding fed_prints
+prints_next bytes i p h =
+    rw (add-one i, take-suc bytes i 0 h)
+    (prints_then (take i bytes) (get_or bytes i 0 ∷ []) p
+    ∙ ap (λ (l : List ℕ). fed_prints (take i bytes) p ++ l) (append-nil (took_prints (get_or bytes i 0) (fed (take i bytes) p))))
 
 -- the whole input, from its start
 whole : (input : List ℕ) → finished input start ≡ record { printed = transcript input; left = session_after input }
@@ -146,14 +160,56 @@ pub record Came (p : Progress) : Type 0 where
   pub here : p ≡ fed script start
 
 -- none at first
-pub came_first : (line state spare : List ℕ) → Came (progress first line state spare)
+unfoldable pub came_first : (line state spare : List ℕ) → Came (progress first line state spare)
 unfolding fed start unformatted
 came_first line state spare = record { script = []; here = refl }
 
 -- more
-pub came_more : {p : Progress} (q : Progress) (bytes : List ℕ) → Came p → q ≡ fed bytes p → Came q
+unfoldable pub came_more : {p : Progress} (q : Progress) (bytes : List ℕ) → Came p → q ≡ fed bytes p → Came q
 came_more q bytes a e = record { script = a.script ++ bytes; here = e ∙ ap (fed bytes) a.here ∙ sym (fed_then a.script bytes start) }
 
 -- and the end
 pub came_all : {p : Progress} (a : Came p) → (ending p).left ≡ session_after a.script
 came_all a = ap (λ (p : Progress). (ending p).left) a.here ∙ left_behind a.script
+
+-- what was printed before the end, and at it
+pub came-prints : {p : Progress} (a : Came p) → fed_prints a.script start ++ (ending p).printed ≡ transcript a.script
+came-prints a = ap (λ (p : Progress). fed_prints a.script start ++ (ending p).printed) a.here ∙ ap (λ (r : Reply). r.printed) (whole a.script)
+
+-- inside a line too some script leaves the session: what has come without that line
+abbrev Leaves : List ℕ → Progress → Session → Type 0
+Leaves cs p s = (ds : List ℕ) × ((fed cs p).session ≡ left_by (lines_of ds) s)
+
+sessions : (cs full : List ℕ) (s : Session) → Each Plain full → Leaves cs (record { session = s; come = take line_room full }) s
+unfolding fed lines_of left_by
+sessions [] full s f = ([], refl)
+sessions (c ∷ cs) full s f =
+    go (eqb c newline) refl (λ s'. sessions cs [] s' none) (λ k. sessions cs (full ++ (c ∷ [])) s (each_last f k))
+  where
+    go : (t : Bool) → eqb c newline ≡ t
+        → ((s' : Session) → Leaves cs (record { session = s'; come = [] }) s')
+        → (Plain c → Leaves cs (record { session = s; come = take line_room (full ++ (c ∷ [])) }) s)
+        → Leaves (c ∷ cs) (record { session = s; come = take line_room full }) s
+    go true e next on =
+        let k : c ≡ newline = eqb-true c newline e in
+        let r : Reply = reply_to (take line_room full) s in
+        let w = next r.left in (
+          full ++ (newline ∷ w.0),
+          ap (λ (p : Progress). (fed cs p).session) (newline-took c _ k)
+              ∙ w.1
+              ∙ ap (λ (m : ScriptLine). left_by (lines_of w.0) (reply m s).left) (front-line full)
+              ∙ sym (ap (λ (ls : List (List ℕ)). left_by ls s) (line-cut full w.0 f)),
+        )
+    go false e next on =
+        let k : Plain c = eqb-false c newline e in
+        let w = on k in (
+          w.0,
+          ap (λ (p : Progress). (fed cs p).session) (other_took c _ k)
+              ∙ ap (λ (l : List ℕ). (fed cs (record { session = s; come = l })).session) (front-longer full c)
+              ∙ w.1,
+        )
+
+pub came-session : {p : Progress} (a : Came p) → (ds : List ℕ) × (p.session ≡ session_after ds)
+unfolding start session_after
+came-session a =
+    let w = sessions a.script [] unformatted none in (w.0, ap (λ (p : Progress). p.session) a.here ∙ w.1)

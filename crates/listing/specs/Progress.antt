@@ -70,9 +70,22 @@ pub record Fed (bytes : List ℕ) (p : Progress) (c : Cursor) (line' state' spar
   pub leaves : progress c line' state' spare' ≡ fed bytes p
   pub handed : c.laid ≡ 0
 
--- The memory at the end holds the session that a script leaves. No contract says what is read: the script is what came.
+-- Bytes taken up to one whose print could not be handed over: what the bytes up to it leave.
+pub record Stopped (bytes : List ℕ) (p : Progress) (line' state' spare' out' : List ℕ) : Type 0 where
+  pub taken : ℕ
+  pub cursor : Cursor
+  pub going : Going cursor line' state' spare' out'
+  pub leaves : progress cursor line' state' spare' ≡ fed (take taken bytes) p
+
+-- The memory at the end holds the session that a script leaves: where no clause says what is read, the script is what came.
 pub record Left (state spare : List ℕ) : Type 0 where
   pub script : List ℕ
+  pub held : Held
+  pub ready : InMemory held state spare
+  pub session : in_use held state spare ≡ session_after script
+
+-- The memory at the end holds the session that this script leaves.
+pub record LeftBy (script state spare : List ℕ) : Type 0 where
   pub held : Held
   pub ready : InMemory held state spare
   pub session : in_use held state spare ≡ session_after script

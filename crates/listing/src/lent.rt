@@ -30,7 +30,7 @@ const PLAN: usize = 256;
 const LOGICAL: u32 = 1024;
 
 // The lengths in use: bytes of state, spare entries, blocks, pages of a block. All are 0 until a format is accepted.
-#[derive(Drop)]
+#[derive(Clone, Copy)]
 pub struct Held {
     pub state: usize,
     pub spare: usize,
@@ -39,7 +39,7 @@ pub struct Held {
 }
 
 // A device that is taken, with the lengths it uses, or refused.
-#[derive(Drop)]
+#[derive(Clone, Copy)]
 pub enum Taken {
     Device(Held),
     Refused,

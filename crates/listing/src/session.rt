@@ -1,25 +1,27 @@
 // A script, line by line.
-ghost use Rattle.std.specs.Prelude.{◌≡◌, List, ℕ, ◌≤◌, length, take};
+ghost use Rattle.std.specs.Prelude.{◌≡◌, List, ℕ, ◌^◌, ◌<◌, ◌≤◌, length, take, IfOk, OnOk, OnErr, IfSome};
+ghost use Rattle.std.specs.Io.KnownBytes.{Appends, ReadConsumes};
 ghost use Rattle.calls.specs.Listing.{listing_length};
 ghost use Rattle.front.specs.Read.{numbers_of};
 ghost use Rattle.state.specs.Reading.{read_state};
 ghost use Rattle.lines.specs.Printed.{Laid};
 ghost use Rattle.listing.specs.Sizes.{line_room, state_room, spare_room, reply_room};
-ghost use Rattle.listing.specs.Session.{format_reply, list_reply, reply_to};
+ghost use Rattle.listing.specs.Session.{format_reply, list_reply, reply_to, transcript};
 ghost use Rattle.listing.specs.Memory.{in_use, InMemory, Replied};
-ghost use Rattle.listing.specs.Progress.{ending, progress, Going, Stepped, Fed, Left};
+ghost use Rattle.listing.specs.Progress.{ending, fed_prints, progress, Going, Stepped, Fed, Stopped, Left, LeftBy};
 
 use crate::lent::{Held, Taken, call, format_device};
 use crate::show::{lay_listing, lay_refusal};
 use answers::{Listed, number};
 use front::Numbers;
-use libc::{STDIN_FILENO, STDOUT_FILENO};
 use lines::print::{lay_bad, lay_refused};
 use lines::read::{Line, read};
 use lookup::list::{LISTING, list};
+use std::io;
+use std::io::{Read, Write};
 
 // What a line comes to: the lengths that the device uses after it, and how many bytes it prints.
-#[derive(Drop)]
+#[derive(Clone, Copy)]
 pub struct Turn {
     pub held: Held,
     pub laid: usize,
@@ -27,7 +29,7 @@ pub struct Turn {
 
 // Between two bytes of the script: the lengths that the device uses, how many bytes of a line have come, and how many bytes wait in the
 // output buffer.
-#[derive(Drop)]
+#[derive(Clone, Copy)]
 pub struct Cursor {
     pub held: Held,
     pub filled: usize,
@@ -163,49 +165,57 @@ fn step(
     }
 }
 
-// Hands the first n bytes of the output buffer to standard output; how many still wait, which is none.
-fn hand(out: &[u8], n: usize) -> usize
+// Hands the first n bytes of the output buffer to the output; how many still wait, which is none.
+fn hand<W: Write>(output: &mut W, out: &[u8], n: usize) -> io::Result<usize>
     requires { n ≤ length out.now }
-    ensures { result ≡ 0 }
+    ensures waits { IfOk result (λ left. left ≡ 0) }
+    ensures prints { OnOk result (Appends (W.contents output.old) (W.contents output.new) (take n out.now)) }
 {
-    io::write_all(STDOUT_FILENO, &out[..n]);
-    0
+    output.write_all(&out[..n])?;
+    Ok(0)
 }
 
-// Bytes of the script, one after the other; what each prints is handed over before the next.
-fn feed(
+// Bytes of the script, one after the other; what each prints is handed over before the next. A failed write ends it: the bytes before it
+// and the one that printed are taken, the others are not.
+fn feed<W: Write>(
+    output: &mut W,
     bytes: &[u8],
     line: &mut [u8],
     state: &mut [u8],
     spare: &mut [u32],
     out: &mut [u8],
     from: Cursor,
-) -> Cursor
+) -> io::Result<Cursor>
     requires { Going from line.old state.old spare.old out.old × (from.laid ≡ 0) }
-    ensures { Fed bytes.now (progress from line.old state.old spare.old)
-        result line.new state.new spare.new out.new }
+    ensures fed { IfOk result (λ c. Fed bytes.now (progress from line.old state.old spare.old)
+        c line.new state.new spare.new out.new) }
+    ensures stopped { OnErr result (Stopped bytes.now (progress from line.old state.old spare.old)
+        line.new state.new spare.new out.new) }
+    ensures prints { OnOk result (Appends (W.contents output.old) (W.contents output.new)
+        (fed_prints bytes.now (progress from line.old state.old spare.old))) }
 {
     let mut c = from;
     let mut i = 0;
     while i < bytes.len() {
         c = step(bytes[i], line, state, spare, out, c);
         let n = c.laid;
-        c.laid = hand(out, n);
+        c.laid = hand(output, out, n)?;
         i += 1;
     }
-    c
+    Ok(c)
 }
 
 // Reads some of the script; how many bytes came, 0 at its end.
-fn read_some(input: &mut [u8]) -> usize
-    ensures { result ≤ length input.new }
+fn read_some<R: Read>(script: &mut R, input: &mut [u8]) -> io::Result<usize>
+    ensures inside { IfOk result (λ n. n ≤ length input.new) }
+    ensures bytes { ReadConsumes (R.remaining script.old) (R.remaining script.new) result input.new }
 {
-    let got = libc::read(STDIN_FILENO, input);
-    io::count(got, input)
+    script.read(input)
 }
 
 // The first n bytes that were read.
-fn feed_first(
+fn feed_first<W: Write>(
+    output: &mut W,
     input: &[u8],
     n: usize,
     line: &mut [u8],
@@ -213,12 +223,16 @@ fn feed_first(
     spare: &mut [u32],
     out: &mut [u8],
     c: Cursor,
-) -> Cursor
+) -> io::Result<Cursor>
     requires { (n ≤ length input.now) × Going c line.old state.old spare.old out.old × (c.laid ≡ 0) }
-    ensures { Fed (take n input.now) (progress c line.old state.old spare.old)
-        result line.new state.new spare.new out.new }
+    ensures fed { IfOk result (λ after. Fed (take n input.now) (progress c line.old state.old spare.old)
+        after line.new state.new spare.new out.new) }
+    ensures stopped { OnErr result (Stopped (take n input.now) (progress c line.old state.old spare.old)
+        line.new state.new spare.new out.new) }
+    ensures prints { OnOk result (Appends (W.contents output.old) (W.contents output.new)
+        (fed_prints (take n input.now) (progress c line.old state.old spare.old))) }
 {
-    feed(&input[..n], line, state, spare, out, c)
+    feed(output, &input[..n], line, state, spare, out, c)
 }
 
 // The end of the script, where no output waits; its last line may lack its newline.
@@ -235,11 +249,24 @@ fn finish(line: &[u8], state: &mut [u8], spare: &mut [u32], out: &mut [u8], c: C
     end_line(line, n, state, spare, held, out)
 }
 
-// Obeys the script on standard input. A proved loop has to end, and nothing says that the input does: the turns are counted down from a
-// number that no run uses up.
-pub fn run(input: &mut [u8], line: &mut [u8], state: &mut [u8], spare: &mut [u32], out: &mut [u8])
+// Obeys a script, and prints what is refused and what is listed. A proved loop has to end, and nothing says that a script does: the turns
+// are counted down from a number that no run uses up. Of a reader whose bytes are known, all are taken, their session is left and their
+// transcript is printed. A failed read or write ends the run with that error; the memory then holds the session of some script too.
+pub fn run<R: Read, W: Write>(
+    script: &mut R,
+    output: &mut W,
+    input: &mut [u8],
+    line: &mut [u8],
+    state: &mut [u8],
+    spare: &mut [u32],
+    out: &mut [u8],
+) -> io::Result<()>
     requires { (length line.old ≡ line_room) × (length state.old ≡ state_room) × (length spare.old ≡ spare_room) × (length out.old ≡ reply_room) }
-    ensures { Left state.new spare.new }
+    ensures left { Left state.new spare.new }
+    ensures session { OnOk result (IfSome (R.remaining script.old) (λ bytes. 0 < length input.old → length bytes < 2 ^ 64
+        → LeftBy bytes state.new spare.new)) }
+    ensures prints { OnOk result (IfSome (R.remaining script.old) (λ bytes. 0 < length input.old → length bytes < 2 ^ 64
+        → Appends (W.contents output.old) (W.contents output.new) (transcript bytes))) }
 {
     let held = Held {
         state: 0,
@@ -254,14 +281,15 @@ pub fn run(input: &mut [u8], line: &mut [u8], state: &mut [u8], spare: &mut [u32
     };
     let mut turns = u64::MAX;
     while turns > 0 {
-        let came = read_some(input);
+        let came = read_some(script, input)?;
         if came == 0 {
             break;
         }
-        c = feed_first(input, came, line, state, spare, out, c);
+        c = feed_first(output, input, came, line, state, spare, out, c)?;
         turns -= 1;
     }
     let turn = finish(line, state, spare, out, c);
     let n = turn.laid;
-    hand(out, n);
+    hand(output, out, n)?;
+    Ok(())
 }

@@ -11,30 +11,29 @@ use Rattle.listing.proofs.lent.collect_blocks.Statement.{statement}
 use Rattle.listing.proofs.lent.collect_blocks.Tie as tie
 use Rattle.listing.specs.Sizes.{block_room}
 
-slice_aggregate_collect : tie.Need-slice-aggregate-collect
-slice_aggregate_collect c = front_length _ c.before.before.before.before.before.args.state.now (omega arith)
+slice_aggregate_collect : tie.Need-slice_bounds-collect-end-2
+slice_aggregate_collect c = front_length _ c.args.state.now (omega arith)
 
-slice_aggregate_collect_2 : tie.Need-slice-aggregate-collect-2
-slice_aggregate_collect_2 c = front_length _ c.before.before.before.before.before.before.args.spare.now (omega arith)
+slice_aggregate_collect_2 : tie.Need-slice_bounds-collect-end-4
+slice_aggregate_collect_2 c = front_length _ c.args.spare.now (omega arith)
 
-slice_aggregate_collect_3 : tie.Need-slice-aggregate-collect-3
-slice_aggregate_collect_3 c = front_length _ c.before.before.before.before.plan-buffer.result (omega (arith, ap length c.before.before.before.before.plan-buffer.ensures, length-replicate {A = ℕ} 256 0))
+slice_aggregate_collect_3 : tie.Need-slice_bounds-collect-end-5
+slice_aggregate_collect_3 c = front_length _ c.plan_buffer-plan.result (omega (arith, ap length c.plan_buffer-plan.ensures, length-replicate {A = ℕ} 256 0))
 
-slice_aggregate_collect_4 : tie.Need-slice-aggregate-collect-4
-slice_aggregate_collect_4 c = front_length _ c.before.before.before.before.erased-buffer.result (omega (arith, ap length c.before.before.before.before.erased-buffer.ensures, length-replicate {A = ℕ} block_room 0))
+slice_aggregate_collect_4 : tie.Need-slice_bounds-collect-end-6
+slice_aggregate_collect_4 c = front_length _ c.erased_buffer-erased.result (omega (arith, ap length c.erased_buffer-erased.ensures, length-replicate {A = ℕ} block_room 0))
 
 returns : tie.Need-returns
 returns c =
-    let start = c.before.before.before.before.before.before.before.before.before.before.before.before.before.before.before.before in
-    let plan = ap (take start.args.held.pages) c.before.before.before.before.before.before.before.before.before.before.before.before.before.plan-buffer.ensures ∙ front_zeros _ _ start.requires.pages_used in
-    let erased = ap (take start.args.held.blocks) c.before.before.before.before.before.before.before.before.before.before.before.before.erased-buffer.ensures ∙ front_zeros _ _ start.requires.blocks_used in
-    let collect = c.before.before.before.before.before.before.before.collect in
-    obeyed_as (ap (λ (l : List ℕ). collect_call l (take start.args.held.blocks c.before.before.before.before.before.before.before.before.before.before.before.before.erased-buffer.result)) plan ∙ ap (λ (l : List ℕ). collect_call (replicate start.args.held.pages 0) l) erased)
+    let plan = ap (take c.args.held.pages) c.plan_buffer-plan.ensures ∙ front_zeros _ _ c.requires.pages_used in
+    let erased = ap (take c.args.held.blocks) c.erased_buffer-erased.ensures ∙ front_zeros _ _ c.requires.blocks_used in
+    let collect = c.collect in
+    obeyed_as (ap (λ (l : List ℕ). collect_call l (take c.args.held.blocks c.erased_buffer-erased.result)) plan ∙ ap (λ (l : List ℕ). collect_call (replicate c.args.held.pages 0) l) erased)
     (obeyed collect.ensures c.collected.ensures
-    (front-back start.args.held.state start.args.state.now _ (omega arith) collect.auto.0)
-    (front-back start.args.held.spare start.args.spare.now _ (omega arith) collect.auto.1.0)
-    (rest_back start.args.held.state start.args.state.now collect.new.0 (omega arith) collect.auto.0)
-    (rest_back start.args.held.spare start.args.spare.now collect.new.1.0 (omega arith) collect.auto.1.0))
+    (front-back c.args.held.state c.args.state.now _ (omega arith) collect.auto.state)
+    (front-back c.args.held.spare c.args.spare.now _ (omega arith) collect.auto.spare)
+    (rest_back c.args.held.state c.args.state.now collect.new.state (omega arith) collect.auto.state)
+    (rest_back c.args.held.spare c.args.spare.now collect.new.spare (omega arith) collect.auto.spare))
 
 pub collect_blocks_spec : {M : Type 1} → statement M
 collect_blocks_spec = tie.close (tie.spec (λ c κs. search rules) (λ c κs. search rules) (λ c. search rules)

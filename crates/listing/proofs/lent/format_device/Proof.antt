@@ -2,7 +2,6 @@
 use native.Mathlib.Omega.{arith}
 use mathlib.Core.Path.{◌≡◌, refl, sym, ◌∙◌}
 use mathlib.Core.Bool.{true}
-use borrow.Author.Tests.{not-true, not-false}
 use Rattle.front.specs.Read.{numbers_of}
 use Rattle.listing.specs.Session.{takes_device}
 use Rattle.listing.proofs.Room.{taken-within, inside}
@@ -11,36 +10,34 @@ use borrow.Author.Rules.{rules}
 use Rattle.listing.proofs.lent.format_device.Statement.{statement}
 use Rattle.listing.proofs.lent.format_device.Tie as tie
 
-held : (c : tie.Else1) → takes_device (numbers_of c.before.before.before.before.args.d) ≡ true
-held c = sym c.before.takes.ensures ∙ not-false _ c.if1.false
+held : (c : tie.Else-not-takes) → takes_device (numbers_of c.args.d) ≡ true
+held c = sym c.takes.ensures ∙ c.if-not-takes.false
 
-returns : tie.Need-returns
-returns c = (sym c.before.takes.ensures ∙ not-true _ c.if1.true, refl, refl)
+returns : tie.Need-returns-then-not-takes
+returns c = (sym c.takes.ensures ∙ c.if-not-takes.true, refl, refl)
 
-state_len_requires : tie.Need-state-len-requires
+state_len_requires : tie.Need-state_len-s-requires
 state_len_requires c κs = taken-within _ (held c)
 
-spare_len_requires : tie.Need-spare-len-requires
+spare_len_requires : tie.Need-spare_len-p-requires
 spare_len_requires c κs = taken-within _ (held c.before)
 
-format_parts_requires : tie.Need-format-parts-requires
+format_parts_requires : tie.Need-format_parts-requires
 format_parts_requires c κs =
-    let start = c.before.before.before.before.before.before.before.before in
-    let i = inside (numbers_of start.args.d) (held c.before.before.before.before) in
-    (omega (arith, i.state, c.before.before.before.state-len.ensures), omega (arith, i.spare, c.before.before.spare-len.ensures))
+    let i = inside (numbers_of c.args.d) (held c.before.before.before.before) in
+    (omega (arith, i.state, c.state_len-s.ensures), omega (arith, i.spare, c.spare_len-p.ensures))
 
-returns_2 : tie.Need-returns-2
+returns_2 : tie.Need-returns
 returns_2 c =
-    let start = c.before.before.before.before.before.before.before.before.before.before.before.before.before.before.before in
-    let parts = c.before.before.before.before.before.before.format-parts in
+    let parts = c.format_parts in
     takes_device_lem _ _ _ _ _ _ _ _
     (held c.before.before.before.before.before.before.before.before.before.before.before)
-    c.before.before.before.before.before.before.before.before.before.before.state-len.ensures
-    c.before.before.before.before.before.before.before.before.before.spare-len.ensures
-    start.requires.0
-    start.requires.1
-    (parts.auto.0 ∙ start.requires.0)
-    (parts.auto.1.1.0 ∙ start.requires.1)
+    c.state_len-s.ensures
+    c.spare_len-p.ensures
+    c.requires.0
+    c.requires.1
+    (parts.auto.state ∙ c.requires.0)
+    (parts.auto.spare ∙ c.requires.1)
     parts.ensures
 
 pub format_device_spec : {M : Type 1} → statement M

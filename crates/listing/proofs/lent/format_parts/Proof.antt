@@ -5,21 +5,20 @@ use borrow.Author.Rules.{rules}
 use Rattle.listing.proofs.lent.format_parts.Statement.{statement}
 use Rattle.listing.proofs.lent.format_parts.Tie as tie
 
-slice_aggregate_format : tie.Need-slice-aggregate-format
-slice_aggregate_format c = front_length _ c.before.before.before.args.state.now c.before.before.before.requires.0
+slice_aggregate_format : tie.Need-slice_bounds-format-end-2
+slice_aggregate_format c = front_length _ c.args.state.now c.requires.0
 
-slice_aggregate_format_2 : tie.Need-slice-aggregate-format-2
-slice_aggregate_format_2 c = front_length _ c.before.before.before.before.args.spare.now c.before.before.before.before.requires.1
+slice_aggregate_format_2 : tie.Need-slice_bounds-format-end-4
+slice_aggregate_format_2 c = front_length _ c.args.spare.now c.requires.1
 
 returns : tie.Need-returns
 returns c =
-    let start = c.before.before.before.before.before.before.before.before.before in
-    let format = c.before.before.before.before.format in
+    let format = c.format in
     obeyed format.ensures refl
-    (front-back start.args.s start.args.state.now _ start.requires.0 format.auto.1.1.1.1.0)
-    (front-back start.args.p start.args.spare.now _ start.requires.1 format.auto.1.1.1.1.1.0)
-    (rest_back start.args.s start.args.state.now format.new.1.1.1.1.0 start.requires.0 format.auto.1.1.1.1.0)
-    (rest_back start.args.p start.args.spare.now format.new.1.1.1.1.1.0 start.requires.1 format.auto.1.1.1.1.1.0)
+    (front-back c.args.s c.args.state.now _ c.requires.0 format.auto.state)
+    (front-back c.args.p c.args.spare.now _ c.requires.1 format.auto.spare)
+    (rest_back c.args.s c.args.state.now format.new.state c.requires.0 format.auto.state)
+    (rest_back c.args.p c.args.spare.now format.new.spare c.requires.1 format.auto.spare)
 
 pub format_parts_spec : {M : Type 1} → statement M
 format_parts_spec = tie.close (tie.spec (λ c. search rules) slice_aggregate_format (λ c. search rules)

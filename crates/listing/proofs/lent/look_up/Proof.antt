@@ -6,14 +6,14 @@ use borrow.Author.Rules.{rules}
 use Rattle.listing.proofs.lent.look_up.Statement.{statement}
 use Rattle.listing.proofs.lent.look_up.Tie as tie
 
-slice_aggregate_lookup : tie.Need-slice-aggregate-lookup
-slice_aggregate_lookup c = front_length _ c.before.before.before.args.state.now (omega arith)
+slice_aggregate_lookup : tie.Need-slice_bounds-lookup-end
+slice_aggregate_lookup c = front_length _ c.args.state.now (omega arith)
 
-slice_aggregate_lookup_2 : tie.Need-slice-aggregate-lookup-2
-slice_aggregate_lookup_2 c = front_length _ c.before.before.before.before.args.spare.now (omega arith)
+slice_aggregate_lookup_2 : tie.Need-slice_bounds-lookup-end-2
+slice_aggregate_lookup_2 c = front_length _ c.args.spare.now (omega arith)
 
 returns : tie.Need-returns
-returns c = obeyed c.before.lookup.ensures c.looked-up.ensures refl refl refl refl
+returns c = obeyed c.lookup.ensures c.looked_up.ensures refl refl refl refl
 
 pub look_up_spec : {M : Type 1} → statement M
 look_up_spec = tie.close (tie.spec slice_aggregate_lookup slice_aggregate_lookup_2 (λ c κs. search rules)

@@ -6,17 +6,17 @@ use Rattle.answers.specs.Answers.{lookup_answer}
 use Rattle.listing.proofs.lent.looked_up.Statement.{statement}
 use Rattle.listing.proofs.lent.looked_up.Tie as tie
 
-returns : tie.Need-returns
+returns : tie.Need-returns-in-Found
 unfolding number lookup_answer
-returns c = sym (ap (λ (a : _). number (lookup_answer a)) c.enum_told.given.1)
+returns c = sym (ap (λ (a : _). number (lookup_answer a)) c.in-Found.is)
 
-returns_2 : tie.Need-returns-2
+returns_2 : tie.Need-returns-in-NotWritten
 unfolding number lookup_answer
-returns_2 c = sym (ap (λ (a : _). number (lookup_answer a)) c.enum-told2.given.1)
+returns_2 c = sym (ap (λ (a : _). number (lookup_answer a)) c.in-NotWritten.is)
 
-returns_3 : tie.Need-returns-3
+returns_3 : tie.Need-returns-in-Refused
 unfolding number lookup_answer
-returns_3 c = c.number.ensures.0 ∙ sym (ap (λ (a : _). number (lookup_answer a)) c.before.before.a.given.1)
+returns_3 c = c.number.ensures.0 ∙ sym (ap (λ (a : _). number (lookup_answer a)) c.in-Refused.is)
 
 pub looked_up_spec : {M : Type 1} → statement M
 looked_up_spec = tie.close (tie.spec (λ c. search rules) (λ c. search rules) (λ c. search rules) (λ c κs. search rules)

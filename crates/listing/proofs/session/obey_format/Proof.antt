@@ -4,11 +4,11 @@ use borrow.Author.Rules.{rules}
 use Rattle.listing.proofs.session.obey_format.Statement.{statement}
 use Rattle.listing.proofs.session.obey_format.Tie as tie
 
-returns : tie.Need-returns
-returns c = replied_format _ _ _ _ _ _ _ _ _ c.before.taken.given.1 c.before.before.before.before.before.before.before.before.before.before.before.before.before.requires.0 c.before.before.before.before.before.before.before.format-device.ensures
+returns : tie.Need-returns-in-Device
+returns c = replied_format _ _ _ _ _ _ _ _ _ c.in-Device.is c.requires.0 c.format_device-taken.ensures
 
-returns_2 : tie.Need-returns-2
-returns_2 c = replied_refused _ _ _ _ _ _ _ _ _ _ c.before.before.before.before.enum_told.given.1 c.before.before.before.before.before.before.before.before.before.before.before.before.before.before.before.before.requires.0 c.before.before.before.before.before.before.before.before.before.before.format-device.ensures c.before.before.lay-refused.ensures
+returns_2 : tie.Need-returns-in-Refused
+returns_2 c = replied_refused _ _ _ _ _ _ _ _ _ _ c.in-Refused.is c.requires.0 c.format_device-taken.ensures c.lay_refused-n.ensures
 
 pub obey_format_spec : {M : Type 1} → statement M
 obey_format_spec = tie.close (tie.spec (λ c κs. search rules) (λ c. search rules) (λ c. search rules)

@@ -11,22 +11,22 @@ use borrow.Author.Rules.{rules}
 use Rattle.listing.proofs.session.obey_list.Statement.{statement}
 use Rattle.listing.proofs.session.obey_list.Tie as tie
 
-slice_aggregate_list : tie.Need-slice-aggregate-list
-slice_aggregate_list c = front_length _ c.before.before.before.before.args.state.now c.before.before.before.before.requires.0
+slice_aggregate_list : tie.Need-slice_bounds-list-end
+slice_aggregate_list c = front_length _ c.args.state.now c.requires.0
 
-lay_listing_requires : tie.Need-lay-listing-requires
+lay_listing_requires : tie.Need-lay_listing-requires
 lay_listing_requires c κs =
-    let list = c.before.before.before.before.before.before.list in
-    let few = few-records _ _ (list.ensures []) c.before.before.before.listed.given.1 in
-    (c.before.before.before.before.before.before.before.before.before.before.before.before.requires.1, few, omega (arith, few, list.auto.1.1.0, c.before.before.before.before.before.before.before.before.before.listing-buffer.ensures))
+    let list = c.list-listed in
+    let few = few-records _ _ (list.ensures []) c.in-Done.is in
+    (c.requires.1, few, omega (arith, few, list.auto.out, c.listing_buffer-listing.ensures))
 
-returns : tie.Need-returns
+returns : tie.Need-returns-in-Done
 unfolding list_reply
-returns c = λ spare. laid_as (listed-print _ spare _ _ _ (sym c.before.before.before.before.before.before.before.before.before.before.before.before.listing-buffer.ensures) _ _ c.before.before.before.before.before.before.listed.given.1 (c.before.before.before.before.before.before.before.before.before.list.ensures spare)) c.before.before.lay-listing.ensures
+returns c = λ spare. laid_as (listed-print _ spare _ _ _ (sym c.listing_buffer-listing.ensures) _ _ c.in-Done.is (c.list-listed.ensures spare)) c.lay_listing.ensures
 
-returns_2 : tie.Need-returns-2
+returns_2 : tie.Need-returns-in-Refused
 unfolding list_reply
-returns_2 c = λ spare. laid_as (ap refused_line c.before.before.before.number.ensures.0 ∙ refused-print _ spare _ _ _ (sym c.before.before.before.before.before.before.before.before.before.before.before.before.listing-buffer.ensures) _ _ c.before.before.before.before.before.before.listed2.given.1 (c.before.before.before.before.before.before.before.before.before.list.ensures spare)) c.before.before.lay-refused.ensures
+returns_2 c = λ spare. laid_as (ap refused_line c.number.ensures.0 ∙ refused-print _ spare _ _ _ (sym c.listing_buffer-listing.ensures) _ _ c.in-Refused.is (c.list-listed.ensures spare)) c.lay_refused.ensures
 
 pub obey_list_spec : {M : Type 1} → statement M
 obey_list_spec = tie.close (tie.spec (λ c κs. search rules) slice_aggregate_list (λ c. search rules)

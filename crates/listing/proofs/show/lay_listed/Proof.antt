@@ -9,9 +9,9 @@ use Rattle.listing.proofs.show.lay_listed.Tie as tie
 
 returns : tie.Need-returns
 returns c =
-    let r = c.before.before.before.before.before.decode in
-    let level = c.before.before.before.before.get-u16 in
-    let laid = c.before.before.lay-record.ensures in
+    let r = c.decode-r in
+    let level = c.get_u16-level in
+    let laid = c.lay_record.ensures in
     (laid_as (ap (λ (n : ℕ). line_for n r.result) level.ensures.0 ∙ ap (line_for _) r.ensures.0) laid.0, laid.1)
 
 pub lay_listed_spec : {M : Type 1} → statement M

@@ -7,11 +7,11 @@ use borrow.Author.Rules.{rules}
 use Rattle.listing.proofs.show.lay_refusal.Statement.{statement}
 use Rattle.listing.proofs.show.lay_refusal.Tie as tie
 
-returns : tie.Need-returns
-returns c = laid_as (sym (no_refusal _ c.if1.true)) (laid_nothing _ 0 (omega arith))
+returns : tie.Need-returns-then-number-eq0
+returns c = laid_as (sym (no_refusal _ c.if-number-eq0.true)) (laid_nothing _ 0 (omega arith))
 
-returns_2 : tie.Need-returns-2
-returns_2 c = laid_as (sym (a_refusal_lem _ c.before.before.before.before.if1.false)) c.before.before.lay-refused.ensures
+returns_2 : tie.Need-returns
+returns_2 c = laid_as (sym (a_refusal_lem _ c.if-number-eq0.false)) c.lay_refused.ensures
 
 pub lay_refusal_spec : {M : Type 1} → statement M
 lay_refusal_spec = tie.close (tie.spec returns (λ c κs. search rules) (λ c. search rules) returns_2)
