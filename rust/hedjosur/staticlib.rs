@@ -1,5 +1,5 @@
 /// Links a static library of the proved code and answers where it is; fails with
-/// what to do where it was not built. It is in `target/staticlib` of the
+/// what to do where it was not built. It is in `out` of its crate's folder in the
 /// repository, or in the folder that the environment variable `HEDJOSUR_STATICLIB`
 /// names.
 fn link(name: &str) -> Option<std::path::PathBuf> {
@@ -7,13 +7,13 @@ fn link(name: &str) -> Option<std::path::PathBuf> {
     let named = std::env::var_os("HEDJOSUR_STATICLIB").map(std::path::PathBuf::from);
     let folder = named.unwrap_or_else(|| {
         let here = std::env::var_os("CARGO_MANIFEST_DIR").expect("cargo sets it");
-        std::path::Path::new(&here).join("../../target/staticlib")
+        std::path::Path::new(&here).join(format!("../../crates/{name}/out"))
     });
     let library = folder.join(format!("lib{name}.a"));
     println!("cargo::rerun-if-changed={}", library.display());
     if !library.is_file() {
         println!(
-            "cargo::error=there is no {}: build it with `rt staticlib {name}` in the repository, \
+            "cargo::error=there is no {}: build it with `rt lib` in crates/{name} of the repository, \
              or name the folder that has lib{name}.a in the environment variable HEDJOSUR_STATICLIB",
             library.display()
         );

@@ -4,7 +4,7 @@
  * driver of your own needs are the gateway_ functions.
  *
  *     cc -I rust/hedjosur/include rust/hedjosur/examples/gateway.c \
- *        target/staticlib/libexport.a -o gateway && ./gateway
+ *        crates/export/out/libexport.a -o gateway && ./gateway
  */
 #include <stdio.h>
 #include <stdlib.h>

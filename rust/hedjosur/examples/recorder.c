@@ -4,7 +4,7 @@
  * one in memory; what a driver of your own needs are the recorder_ functions.
  *
  *     cc -I rust/hedjosur/include rust/hedjosur/examples/recorder.c \
- *        target/staticlib/libexport.a -o recorder && ./recorder
+ *        crates/export/out/libexport.a -o recorder && ./recorder
  */
 #include <assert.h>
 #include <stdio.h>

@@ -1,7 +1,7 @@
 /*
  * Hedjosur, a learned page table for raw flash and a plain one beside it, for C and
- * C++: the functions of the static library libexport.a, which `rt staticlib export`
- * builds.
+ * C++: the functions of the static library libexport.a, which `rt lib` builds in
+ * crates/export.
  *
  * A driver owns the flash. It lends the table two buffers, the state and the spare
  * area, and is told where pages go and where they are:

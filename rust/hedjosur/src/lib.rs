@@ -80,9 +80,9 @@
 //! docs/COSTS.md of the repository has what the table costs, in memory, reads, stack
 //! and time.
 //!
-//! The functions are those of the static library that `rt staticlib export`
-//! builds; `include/hedjosur.h` says the same for C. The archive is code for x86-64
-//! Linux and needs `memcpy`, `memmove` and `memset`.
+//! The functions are those of the static library that `rt lib` builds in
+//! `crates/export`; `include/hedjosur.h` says the same for C. The archive is code for
+//! x86-64 Linux and needs `memcpy`, `memmove` and `memset`.
 
 #![no_std]
 #![deny(unsafe_code)]

@@ -178,7 +178,7 @@ fn every_name_that_the_documents_cite_is_there() {
 fn theorem(span: &str) -> Option<(&str, &str)> {
     let (file, name) = span.split_once('.')?;
     let plain = |part: &str| {
-        let letter = |c: char| c.is_ascii_alphanumeric() || c == '-';
+        let letter = |c: char| c.is_ascii_alphanumeric() || ['-', '_', '\''].contains(&c);
         !part.is_empty() && part.chars().all(letter)
     };
     let is_file = plain(file) && file.starts_with(|c: char| c.is_ascii_uppercase());
@@ -204,13 +204,15 @@ fn has_function(folder: &Path, function: &str) -> bool {
         .any(|path| text(path).contains(&head))
 }
 
-/// All files in a folder and the folders below; none if there is no such folder.
+/// All files in a folder and the folders below, but for what the prover keeps in
+/// `out`; none if there is no such folder.
 fn files_below(folder: &Path) -> Vec<PathBuf> {
     let Ok(entries) = fs::read_dir(folder) else {
         return Vec::new();
     };
     entries
         .map(|entry| entry.expect("it can be read").path())
+        .filter(|path| !path.ends_with("out"))
         .flat_map(|path| match path.is_dir() {
             true => files_below(&path),
             false => vec![path],

@@ -24,13 +24,13 @@ pub fn run_program(program: &Path, arguments: &[&str], input: &[u8]) -> Output {
 }
 
 /// The proved listing program: the file that the environment variable
-/// `HEDJOSUR_LISTING` names, or `target/bin/listing` of the repository.
+/// `HEDJOSUR_LISTING` names, or `crates/listing/out/listing` of the repository.
 pub fn proved_listing() -> PathBuf {
-    let here = Path::new(env!("CARGO_MANIFEST_DIR")).join("../../target/bin/listing");
+    let here = Path::new(env!("CARGO_MANIFEST_DIR")).join("../../crates/listing/out/listing");
     let program = env::var_os("HEDJOSUR_LISTING").map_or(here, PathBuf::from);
     assert!(
         program.is_file(),
-        "{} is not there; `rt check listing` builds it",
+        "{} is not there; `rt run` in crates/listing builds it",
         program.display()
     );
     program
