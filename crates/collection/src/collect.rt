@@ -106,8 +106,8 @@ pub fn collect(
     plan: &mut [u32],
     erased: &mut [u32],
 ) -> Collected
-    ensures { Ran (collect_call plan.old erased.old) state.entry.now spare.old (collect_answer result)
-        (record { state = state.exit.now; spare = spare.new; plan = plan.new; erased = erased.new; out = [] }) }
+    ensures { Ran (collect_call plan.old erased.old) state.old spare.old (collect_answer result)
+        (record { state = state.new; spare = spare.new; plan = plan.new; erased = erased.new; out = [] }) }
 {
     let checked = check(state, spare, plan, erased);
     let d = match checked {

@@ -75,8 +75,8 @@ pub extern "C" fn hedjosur_flush(
     batch: &[u32],
     plan: &mut [u32],
 ) -> u64
-    ensures { Packs (flush_call batch.now plan.old) state.entry.now spare.old result
-        (record { state = state.exit.now; spare = spare.new; plan = plan.new; erased = []; out = [] }) }
+    ensures { Packs (flush_call batch.now plan.old) state.old spare.old result
+        (record { state = state.new; spare = spare.new; plan = plan.new; erased = []; out = [] }) }
 {
     pack::flush(flush(state, spare, batch, plan))
 }
@@ -107,8 +107,8 @@ pub extern "C" fn hedjosur_collect(
     plan: &mut [u32],
     erased: &mut [u32],
 ) -> u64
-    ensures { Packs (collect_call plan.old erased.old) state.entry.now spare.old result
-        (record { state = state.exit.now; spare = spare.new; plan = plan.new; erased = erased.new; out = [] }) }
+    ensures { Packs (collect_call plan.old erased.old) state.old spare.old result
+        (record { state = state.new; spare = spare.new; plan = plan.new; erased = erased.new; out = [] }) }
 {
     pack::collect(collect(state, spare, plan, erased))
 }
@@ -177,8 +177,8 @@ pub extern "C" fn hedjosur_plain_format(m: u32, b: u32, n: u32, g: u32, state: &
 // Its flush: count × 2^20 + first page.
 #[unsafe(no_mangle)]
 pub extern "C" fn hedjosur_plain_flush(state: &mut [u8], batch: &[u32], plan: &mut [u32]) -> u64
-    ensures { PlainPacks (plain.flush batch.now plan.old) state.entry.now result
-        (record { state = state.exit.now; plan = plan.new; erased = [] }) }
+    ensures { PlainPacks (plain.flush batch.now plan.old) state.old result
+        (record { state = state.new; plan = plan.new; erased = [] }) }
 {
     pack::flush(plaincalls::flush::flush(state, batch, plan))
 }
@@ -206,8 +206,8 @@ pub extern "C" fn hedjosur_plain_collect(
     plan: &mut [u32],
     erased: &mut [u32],
 ) -> u64
-    ensures { PlainPacks (plain.collect plan.old erased.old) state.entry.now result
-        (record { state = state.exit.now; plan = plan.new; erased = erased.new }) }
+    ensures { PlainPacks (plain.collect plan.old erased.old) state.old result
+        (record { state = state.new; plan = plan.new; erased = erased.new }) }
 {
     pack::collect(plaincalls::collect::collect(state, plan, erased))
 }

@@ -92,8 +92,8 @@ fn write_batch(
 
 // Document 01's flush.
 pub fn flush(state: &mut [u8], spare: &mut [u32], batch: &[u32], plan: &mut [u32]) -> Flushed
-    ensures { Ran (flush_call batch.now plan.old) state.entry.now spare.old (flush_answer result)
-        (record { state = state.exit.now; spare = spare.new; plan = plan.new; erased = []; out = [] }) }
+    ensures { Ran (flush_call batch.now plan.old) state.old spare.old (flush_answer result)
+        (record { state = state.new; spare = spare.new; plan = plan.new; erased = []; out = [] }) }
 {
     let opened = check(state, spare, batch, plan);
     let d = match opened {

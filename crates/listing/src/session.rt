@@ -69,7 +69,7 @@ fn listing_buffer() -> [u8; LISTING]
 fn obey_list(state: &[u8], held: Held, group: u32, out: &mut [u8]) -> usize
     requires { (held.state ≤ length state.now) × (length out.old ≡ reply_room) }
     ensures { (spare : List ℕ) → Laid out.old out.new 0 result
-        (list_reply group (record { state = read_state (take held.state state.entry.now); spare = spare })).printed }
+        (list_reply group (record { state = read_state (take held.state state.now); spare = spare })).printed }
 {
     let mut listing = listing_buffer();
     let s = held.state;

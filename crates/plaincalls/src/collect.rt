@@ -107,8 +107,8 @@ fn carry_out(state: &mut [u8], plan: &mut [u32], d: Numbers, blocks: &[u32]) -> 
 
 // Document 02's collection of the plain engine.
 pub fn collect(state: &mut [u8], plan: &mut [u32], erased: &mut [u32]) -> Collected
-    ensures { Ran (collect plan.old erased.old) state.entry.now (collect_answer result)
-        (record { state = state.exit.now; plan = plan.new; erased = erased.new }) }
+    ensures { Ran (collect plan.old erased.old) state.old (collect_answer result)
+        (record { state = state.new; plan = plan.new; erased = erased.new }) }
 {
     let mut tally = [0u16; 4096];
     let checked = check(state, plan, erased, &mut tally);

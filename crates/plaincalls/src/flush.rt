@@ -74,8 +74,8 @@ fn write_batch(state: &mut [u8], plan: &mut [u32], d: Numbers, k: u32, batch: &[
 
 // Document 02's flush of the plain engine.
 pub fn flush(state: &mut [u8], batch: &[u32], plan: &mut [u32]) -> Flushed
-    ensures { Ran (flush batch.now plan.old) state.entry.now (flush_answer result)
-        (record { state = state.exit.now; plan = plan.new; erased = [] }) }
+    ensures { Ran (flush batch.now plan.old) state.old (flush_answer result)
+        (record { state = state.new; plan = plan.new; erased = [] }) }
 {
     let opened = check(state, batch, plan);
     let d = match opened {

@@ -26,9 +26,6 @@ few c = let pre = c.requires in omega (arith, c.used-m.ensures.0, few-used _ (so
 loop_holds : tie.Need-loop-i-init invariant-loop decreases-loop
 loop_holds c = (omega arith, few c.before.before.before.before.before, says_none _ _ _ _ _ (ap (λ (x : ℕ). x * level_unit) c.levels_at-n.ensures) c.fill.ensures)
 
-abbrev used : tie.After-near invariant-loop decreases-loop → tie.After-used-m invariant-loop decreases-loop
-used c = c.before.before.before.before.before.before.before.before.before.before.before
-
 -- the slot that comes next is one of the used ones
 in_use_lem : (c : tie.After-near invariant-loop decreases-loop) → c.loop-i.i - 1 < c.used-m.result
 in_use_lem c = omega (arith, c.loop-i-test.true, c.loop-i.invariant.0)

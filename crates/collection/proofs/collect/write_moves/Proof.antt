@@ -11,9 +11,6 @@ use Rattle.collection.proofs.Moved.{write-ready, none_moved, some_moved, lowest_
 use Rattle.collection.proofs.collect.write_moves.Statement.{statement}
 use Rattle.collection.proofs.collect.write_moves.Tie as tie
 
-abbrev start : tie.After-lowest_free-k → tie.Start
-start c = c.before.before.before.before.before
-
 returns : tie.Need-returns-then-pages-eq0
 returns c = let pre = c.requires in none_moved _ _ _ pre.0 _ pre.1 c.if-pages-eq0.true
 

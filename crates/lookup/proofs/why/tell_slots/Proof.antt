@@ -23,10 +23,6 @@ invariant-loop b o out₀ n w k₀ i₀ out k i = Left b n o out₀ out k i
 abbrev decreases-loop : tie.decreases-loop-i
 decreases-loop b o out₀ n w k₀ i₀ out k i = n - i
 
--- the start, from the loop; the slot, from where its entry is stored
-abbrev start : tie.At-loop-i invariant-loop decreases-loop → tie.Start invariant-loop decreases-loop
-start c = c.before.before.before.before.before.before
-
 -- the group that the bytes encode, and how many slots it uses
 group : (c : tie.Start invariant-loop decreases-loop) → encodes c.args.b.now ≡ true
 group c = sound-encodes _ _ _ c.requires.1.sound

@@ -41,9 +41,6 @@ shape c = opened-shape (read_state (bytes c)) (held c) (passed c).0 (passed c).1
 inside : (c : tie.Else-d-page) → page c.before.before.before < (held c.before.before.before).N
 inside c = omega (arith, c.if-d-page.false)
 
-abbrev opened : tie.Else-not-group_sound → tie.In-Device
-opened c = c.before.before.before.before.before
-
 sound : (c : tie.Else-not-group_sound) → sound_group (held c.before.before.before.before.before).N (group_of (page c.before.before.before.before.before)) (group_at (read_state (bytes c.before.before.before.before.before)) (group_of (page c.before.before.before.before.before))) ≡ true
 sound c = sym c.group_sound.ensures ∙ c.if-not-group_sound.false
 

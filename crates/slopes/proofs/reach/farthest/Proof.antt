@@ -12,10 +12,6 @@ invariant-loop written ends s a low₀ high₀ q₀ low high q = Followed s writ
 abbrev decreases-loop : tie.decreases-loop-q
 decreases-loop written ends s a low₀ high₀ q₀ low high q = s.end - q
 
--- the function's start, from a turn
-abbrev start : tie.At-loop-q invariant-loop decreases-loop → tie.Start invariant-loop decreases-loop
-start turn = turn.before.before.before.before.before.before
-
 loop_holds : tie.Need-loop-q-init invariant-loop decreases-loop
 loop_holds c =
     let p = c.requires in
