@@ -44,9 +44,6 @@ strides_on w d i j m s t = record { step = λ q k n. go q k n (ltb q j) refl }
     go q k n true e = s.step q k (ltb-true _ _ e)
     go q k n false e = t.step q (ltb-false _ _ e) n
 
-pub strides_none : (w : List ℕ) (d i j : ℕ) → j ≤ i → Strides w d i j
-strides_none w d i j h = record { step = λ q k n. absurd (omega arith) }
-
 -- how many pages go on at stride d from place j
 abbrev pub onward : List ℕ → ℕ → ℕ → ℕ → ℕ
 onward w k d j = stride_length d (get_or w j 0 % 256) (ahead_of w k (j + 1))

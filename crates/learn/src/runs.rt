@@ -1,13 +1,11 @@
 // The runs of a sorted batch, taken from the left, and their records.
 ghost use Rattle.std.specs.Prelude.{◌≡◌, true, ℕ, ◌+◌, ◌-◌, ◌<◌, ◌≤◌, ◌%◌, ◌/◌, length};
-ghost use Rattle.std.proofs.Math.IntN.{sub_ℕ};
 ghost use Rattle.model.specs.Lists.{ascending, store};
 ghost use Rattle.model.specs.Learning.{stride_length, learn};
 ghost use Rattle.model.specs.Sound.{is_empty};
 ghost use Rattle.model.specs.Demand2.{bounds_of};
 ghost use Rattle.slopes.specs.Places.{page_at, ahead_of, offsets_behind};
 ghost use Rattle.learn.specs.Runs.{IsRun, accurate_at, fit_record, run_at, Strides, GroupEnd, on_pages, Batch, records, counts};
-ghost use Rattle.slopes.specs.Slopes.{Seeking};
 ghost use Rattle.slopes.specs.Counting.{as_fit};
 
 use record::Record;
@@ -26,22 +24,11 @@ pub struct Run {
 // So many steps at one stride are looked at one by one.
 const FEW: usize = 5;
 
-// n less m.
-fn less(n: u32, m: u32) -> i32
-    requires { (n < 2147483648) × (m < 2147483648) }
-    ensures { result ≡ sub_ℕ n m }
-{
-    n as i32 - m as i32
-}
-
 // Whether no page of group k stands at place j.
 fn ended(written: &[u32], j: usize, k: u32) -> bool
     ensures { result ≡ is_empty (ahead_of written.now k j) }
 {
-    if j < written.len() {
-        return written[j] / 256 != k;
-    }
-    true
+    written.len() <= j || written[j] / 256 != k
 }
 
 // Where the pages of the group of place i end.
@@ -50,21 +37,11 @@ fn group_end(written: &[u32], i: usize) -> usize
     ensures { GroupEnd written.now i result }
 {
     let k = written[i] / 256;
-    let n = written.len();
-    if written[n - 1] / 256 == k {
-        return n;
+    // The last page tells whether all are of the group.
+    if written[written.len() - 1] / 256 == k {
+        return written.len();
     }
-    let mut low = i;
-    let mut high = n - 1;
-    while low + 1 < high {
-        let m = (low + high) / 2;
-        if written[m] / 256 == k {
-            low = m;
-        } else {
-            high = m;
-        }
-    }
-    high
+    i + written[i..].partition_point(|x| *x / 256 == k)
 }
 
 // Whether sixteen pages go on from place j at stride d: compared at once.
@@ -73,10 +50,8 @@ fn steps(written: &[u32], j: usize, d: u32) -> bool
     ensures { result ≡ true → Strides written.now d j (j + 16) }
 {
     let mut so = true;
-    let mut l = 0;
-    while l < 16 {
-        so = so & (written[j + l + 1] - written[j + l] == d);
-        l += 1;
+    for l in 0..16 {
+        so &= written[j + l + 1] - written[j + l] == d;
     }
     so
 }
@@ -87,10 +62,8 @@ fn stride_on(written: &[u32], from: usize, d: u32, k: u32) -> usize
     ensures { (from ≤ result) × (result < length written.now) × (page_at written.now result / 256 ≡ k) × Strides written.now d from result }
 {
     let mut j = from;
-    while !ended(written, j + 16, k) {
-        if !steps(written, j, d) {
-            return j;
-        }
+    // Kept: no range: it goes on for as long as the next sixteen do.
+    while !ended(written, j + 16, k) && steps(written, j, d) {
         j += 16;
     }
     j
@@ -103,10 +76,8 @@ fn stride_end(written: &[u32], i: usize, d: u32) -> usize
 {
     let k = written[i] / 256;
     let mut j = i;
-    while !ended(written, j + 1, k) {
-        if written[j + 1] - written[j] != d {
-            return j;
-        }
+    // Kept: no range: behind a few pages stride_on tells where to go on.
+    while !ended(written, j + 1, k) && written[j + 1] - written[j] == d {
         j += 1;
         if j == i + FEW {
             j = stride_on(written, j, d, k);
@@ -122,15 +93,15 @@ fn accurate(written: &[u32], i: usize, first: u32) -> Run
     ensures le_taken { (1 ≤ result.taken) × (i + result.taken ≤ length written.now) }
 {
     let x = written[i];
-    let s = x % 256;
+    let start = x % 256;
     let p = first + i as u32;
     if ended(written, i + 1, x / 256) {
         return Run {
             learned: Record {
-                start: s,
+                start,
                 span: 0,
                 word: 0,
-                intercept: less(p, 0),
+                intercept: p as i32,
             },
             taken: 1,
         };
@@ -139,10 +110,10 @@ fn accurate(written: &[u32], i: usize, first: u32) -> Run
     let e = stride_end(written, i + 1, d);
     Run {
         learned: Record {
-            start: s,
+            start,
             span: written[e] - x,
             word: 2 * d,
-            intercept: less(p, (s + (d - 1)) / d),
+            intercept: p as i32 - ((start + (d - 1)) / d) as i32,
         },
         taken: e - i + 1,
     }
@@ -153,34 +124,33 @@ fn approximate(written: &[u32], i: usize, first: u32, f: Fit) -> Run
     requires { (i + f.size ≤ length written.now) × (1 ≤ f.size) × (page_at written.now i % 256 ≤ page_at written.now (i + f.size - 1) % 256) × (f.slope ≤ 256) × (first + f.intercept < 2147483648) }
     ensures { (result.learned ≡ fit_record written.now i (on_pages first (as_fit f))) × (result.taken ≡ f.size) }
 {
-    let s = written[i] % 256;
-    let e = written[i + f.size - 1] % 256;
+    let start = written[i] % 256;
     Run {
         learned: Record {
-            start: s,
-            span: e - s,
+            start,
+            span: written[i + f.size - 1] % 256 - start,
             word: 2 * f.slope + 1,
-            intercept: less(first + f.intercept, ADDED),
+            intercept: (first + f.intercept) as i32 - ADDED as i32,
         },
         taken: f.size,
     }
 }
 
 // The run that is sought, where the accurate one ends before the group: a longer one, or that.
-fn longer(written: &[u32], s: Sought, first: u32, r: Run) -> Run
-    requires { Seeking s written.now × IsRun r (accurate_at (bounds_of s.g first written.now) written.now s.place) × (s.place + r.taken < s.end) × (1 ≤ s.g) × (first + length written.now ≤ 2097152) }
-    ensures run { IsRun result (run_at (bounds_of s.g first written.now) written.now s.place) }
-    ensures le_taken { (1 ≤ result.taken) × (s.place + result.taken ≤ s.end) }
+fn longer(s: &Sought, first: u32, r: Run) -> Run
+    requires { IsRun r (accurate_at (bounds_of s.now.g first s.now.written.now) s.now.written.now s.now.place)
+        × (s.now.place + r.taken < s.now.end) × (1 ≤ s.now.g) × (first + length s.now.written.now ≤ 2097152) }
+    ensures run { IsRun result (run_at (bounds_of s.now.g first s.now.written.now) s.now.written.now s.now.place) }
+    ensures le_taken { (1 ≤ result.taken) × (s.now.place + result.taken ≤ s.now.end) }
 {
     let i = s.place;
     let n = r.taken;
-    let mut ends = [0u8; PLACES];
-    find_lines(written, i, s.end, &mut ends);
-    let size = longest(written, &ends, s, n);
+    let size = longest(s, n);
     if size == n {
-        return r;
+        r
+    } else {
+        approximate(s.written, i, first, best(s, size))
     }
-    approximate(written, i, first, best(written, &ends, s, size))
 }
 
 // The run at place i of a sorted batch that is written from page `first` on.
@@ -189,25 +159,21 @@ pub fn run_at(written: &[u32], i: usize, first: u32, g: u32) -> Run
     ensures { IsRun result (run_at (bounds_of g first written.now) written.now i) }
 {
     let r = accurate(written, i, first);
-    if g == 0 {
-        return r;
-    }
-    if ended(written, i + r.taken, written[i] / 256) {
+    if g == 0 || ended(written, i + r.taken, written[i] / 256) {
         return r;
     }
     let end = group_end(written, i);
-    let last = written.len() as u32 - 1;
-    longer(
+    let mut ends = [0u8; PLACES];
+    find_lines(written, i, end, &mut ends);
+    let s = Sought {
         written,
-        Sought {
-            place: i,
-            end,
-            g,
-            last,
-        },
-        first,
-        r,
-    )
+        ends: &ends,
+        place: i,
+        end,
+        g,
+        last: written.len() as u32 - 1,
+    };
+    longer(&s, first, r)
 }
 
 // The runs of a sorted batch that is written from page `first` on: how many, their records, and how many of the batch's pages
@@ -220,6 +186,7 @@ pub fn learn(written: &[u32], first: u32, g: u32, out: &mut [Record], taken: &mu
 {
     let mut i = 0;
     let mut n = 0;
+    // Kept: no range: a turn goes on by as many pages as the run takes.
     while i < written.len() {
         let r = run_at(written, i, first, g);
         out[n] = r.learned;

@@ -1,6 +1,5 @@
 pub mod Signed
 pub mod Stores
-pub mod Digits
 pub mod Same
 pub mod ReadWrite
 pub mod Moves

@@ -1,7 +1,6 @@
 -- A signed number of 32 bits against its bits, by its sign: -1 - k is the number whose bits are 4,294,967,295 - k. Assumes nothing.
-use Prim.Native.Nat.{ℕ, zero, suc, ◌-◌, ◌≤◌}
+use Prim.Native.Nat.{ℕ, suc, ◌-◌, ◌≤◌}
 use native.Mathlib.Omega.{arith}
-use native.Mathlib.Nat.{zero-add}
 use lib.Dec.{T}
 use mathlib.Core.Bool.{Bool, true, false, cond, true≢false, false≢true}
 use borrow.Author.Tests.{le-ltb, le-leb}
@@ -10,11 +9,6 @@ use lib.IntN.{ℤ, pos, negsuc, ◌-ℤ◌, nat_abs}
 use lib.Signed.{le_z, non_neg}
 use mir.Syntax.{w32}
 use mir.Val.{SFits, Fits, of_z}
-
--- -1 - k is -(k + 1)
-pub minus_one : (k : ℕ) → negsuc 0 -ℤ pos k ≡ negsuc k
-minus_one zero = refl
-minus_one (suc k) = ap (λ (n : ℕ). negsuc (suc n)) (zero-add k)
 
 -- a number that passed the test z >= 0
 pub of_nonneg : (z : ℤ) → SFits w32 z → le_z (pos 0) z ≡ true → (T (non_neg z) × Fits w32 (nat_abs z)) × (nat_abs z ≡ of_z w32 z)

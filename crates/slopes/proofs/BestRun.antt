@@ -7,7 +7,7 @@ use Prim.Native.Nat.{ℕ, ◌+◌, ◌-◌, ◌≤◌, ◌<◌, min}
 use native.Mathlib.Omega.{arith}
 use Rattle.model.specs.Learning.{Fit}
 use Rattle.model.proofs.Bools.{is_false}
-use Rattle.slopes.specs.Slopes.{takes, reach_of, fit_of, longest_of, bettered, Seeking}
+use Rattle.slopes.specs.Slopes.{takes, reach_of, fit_of, longest_of, bettered}
 use Rattle.slopes.specs.Counting.{no_fit}
 use Rattle.slopes.specs.declared.windows.Sought.{Sought}
 use Rattle.slopes.proofs.WindowReach.{reach_few}
@@ -16,14 +16,17 @@ use Rattle.slopes.proofs.SlopeFits.{fit-size}
 use Rattle.slopes.proofs.ChosenFits.{shorter}
 use Rattle.slopes.proofs.Unbeaten.{bettered-short, bettered-size, bettered_add, bettered-again}
 
-module _ (s : Sought) (w : List ℕ) (so : Seeking s w) (n : ℕ) (some : 1 ≤ n) (longest : n ≡ longest_of s.g w s.place 0 255) where
+module _ (s : Sought) (n : ℕ) (some : 1 ≤ n) (longest : n ≡ longest_of s.g s.written.now s.place 0 255) where
+  abbrev w : List ℕ
+  w = s.written.now
+
   pub none_longer : (a : ℕ) → a ≤ 255 → (reach_of s.g w s.place a).size ≤ n
   none_longer a h = rw longest (longest_some s.g w s.place 0 255 a (omega arith) (omega arith))
 
   pub longest-inside : s.place + n ≤ s.end
   longest-inside =
-      let few = longest_most s.g w s.place 0 255 (s.end - s.place) (λ a h k. omega (arith, (reach_few s w so a (omega arith)).1)) in
-      omega (arith, longest, few, so.inside)
+      let few = longest_most s.g w s.place 0 255 (s.end - s.place) (λ a h k. omega (arith, (reach_few s a (omega arith)).1)) in
+      omega (arith, longest, few, s.seeking.inside)
 
   -- the best of the slopes below `next`
   abbrev best_below : ℕ → Fit
@@ -34,10 +37,10 @@ module _ (s : Sought) (w : List ℕ) (so : Seeking s w) (n : ℕ) (some : 1 ≤ 
       (λ k h. rw (fit-size s.g w s.place (0 + k)) (none_longer (0 + k) (omega arith)))
 
   pub below-turn : (f f' : Fit) (next a : ℕ) → a ≡ min next 224 → next ≤ 255 → f ≡ best_below next → f' ≡ bettered s.g w s.place f a 32
-      → f' ≡ best_below (a + 32)
+      → f' ≡ best_below (next + 32)
   below-turn f f' next a e h p q =
       let y : min next 256 ≡ next = omega arith in
-      let z : min (a + 32) 256 ≡ a + 32 = omega arith in
+      let z : min (next + 32) 256 ≡ a + 32 = omega arith in
       let p' : f ≡ bettered s.g w s.place (no_fit n) 0 next = rw y at p in
       rw z (q ∙ rw p' (bettered-again s.g w s.place (no_fit n) next a 32 (omega arith) (omega arith)))
 
@@ -45,7 +48,7 @@ module _ (s : Sought) (w : List ℕ) (so : Seeking s w) (n : ℕ) (some : 1 ≤ 
   module _ (first last m : ℕ) (e : m ≡ n - 1)
       (range : (a : ℕ) → a ≤ 255 → takes s.g w a s.place m ≡ true → (first ≤ a) × (a ≤ last)) where
     outside : (a : ℕ) → a ≤ 255 → (a < first) ⊎ (last < a) → (fit_of s.g w s.place a).size < n
-    outside a h k = shorter s w so a n (omega arith) some (rw (← e) (is_false _ (λ t. go (range a h t) k)))
+    outside a h k = shorter s a n (omega arith) some (rw (← e) (is_false _ (λ t. go (range a h t) k)))
       where
         go : (first ≤ a) × (a ≤ last) → (a < first) ⊎ (last < a) → ⊥
         go r (inl x) = omega arith

@@ -44,9 +44,6 @@ module _ (n a : ℕ) (low widths most choice : List ℕ) where
     pub rest : (g : ℕ) (w : List ℕ) (i : ℕ) → ((j : ℕ) → j < 32 → Chosen g w i n a low widths most choice j)
         → bettered g w i f₀ a 32 ≡ bettered g w i f (a + k) (32 - k)
 
-  pub compared-start : (f : Fit) → f.size ≡ n → Compared f f 0
-  compared-start f s = record { few = omega arith; size = s; rest = λ g w i h. let z : a + 0 ≡ a = omega arith in rw z }
-
   module _ (f₀ f : Fit) (k : ℕ) (r : Compared f₀ f k) where
     next : (f' : Fit) → f'.size ≡ n → k < 32
         → ((g : ℕ) (w : List ℕ) (i : ℕ) → Chosen g w i n a low widths most choice k → f' ≡ better f (fit_of g w i (a + k))) → Compared f₀ f' (k + 1)

@@ -7,7 +7,7 @@ use native.Mathlib.Omega.{arith}
 use lib.Dec.{ltb}
 use lib.ListN.{length, get_or, replicate, length-replicate, get_or-replicate}
 use borrow.Author.Tests.{ltb-true, ltb-false}
-use Rattle.slopes.specs.Counting.{pick_of, Stored, most_of, choice_of, counts_of, Choices, raised_most, raised_choice}
+use Rattle.slopes.specs.Counting.{pick_of, Stored, most_of, choice_of, counts_of, raised_most, raised_choice}
 
 pick-max : (n m : ℕ) → pick_of (ltb m n) n m ≡ max m n
 unfolding pick_of
@@ -68,12 +68,6 @@ module _ (tally widths : List ℕ) where
           let z : 0 + k ≡ k = omega arith in
           chosen_next (counts_of tally k) (get_or widths k 0) c (get_or tally (to + k) 0) _ _ _ _ (rw e) (t.greatest k q) (t.first k q)
           (rw z at (m.here k q)) (rw z at (h.here k q))
-
-  pub choosing_end : (most choice : List ℕ) (c : ℕ) → ((k : ℕ) → k < 32 → get_or widths k 0 ≤ c) → Choosing most choice c
-      → Choices tally widths most choice
-  choosing_end most choice c h t k q =
-      let z : min c (get_or widths k 0) ≡ get_or widths k 0 = omega (arith, h k q) in
-      (rw z at (t.greatest k q), rw z at (t.first k q))
 
 pub most_few : (t : ℕ → ℕ) (n m : ℕ) → ((c : ℕ) → c < m → t c ≤ n) → most_of t m ≤ n
 unfolding most_of

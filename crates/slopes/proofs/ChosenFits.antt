@@ -8,7 +8,7 @@ use lib.Dec.{ltb}
 use lib.ListN.{get_or}
 use borrow.Author.Tests.{ltb-true, ltb-false, le-leb, lt-leb}
 use Rattle.model.specs.Learning.{Intercepts, Reach}
-use Rattle.slopes.specs.Slopes.{takes, window, reach_of, fit_of, Windows, Seeking}
+use Rattle.slopes.specs.Slopes.{takes, window, reach_of, fit_of, Windows}
 use Rattle.slopes.specs.Counting.{Widths, tally_of, Tallies, counts_of, Choices, Chosen}
 use Rattle.slopes.specs.declared.windows.Sought.{Sought}
 use Rattle.slopes.proofs.WindowReach.{takes_reached, reached_takes, reach-suit}
@@ -23,22 +23,25 @@ tally-few w a i l n c = how_many_most _ n
 
 -- what was found out about the slopes from a on: their windows over n pages, how many intercepts of each may be right, their tallies
 -- below `top`, and what was chosen by them
-pub record Judged (s : Sought) (w : List ℕ) (n a top : ℕ) (low high widths tally most choice : List ℕ) : Type 0 where
-  pub windows : Windows s.g w a s.place (n - 1) low high
+pub record Judged (s : Sought) (n a top : ℕ) (low high widths tally most choice : List ℕ) : Type 0 where
+  pub windows : Windows s.g s.written.now a s.place (n - 1) low high
   pub width : Widths s.g low high widths top
-  pub tallied : Tallies w a s.place n low top tally
+  pub tallied : Tallies s.written.now a s.place n low top tally
   pub chose : Choices tally widths most choice
 
-module _ (s : Sought) (w : List ℕ) (so : Seeking s w) where
+module _ (s : Sought) where
+  abbrev w : List ℕ
+  w = s.written.now
+
   -- a slope that doesn't take the last of n pages has a shorter run
   pub shorter : (a n : ℕ) → a ≤ 256 → 1 ≤ n → takes s.g w a s.place (n - 1) ≡ false → (fit_of s.g w s.place a).size < n
   shorter a n h k e = rw (fit-size s.g w s.place a) (go (ltb (n - 1) (reach_of s.g w s.place a).size) refl)
     where
       go : (t : Bool) → ltb (n - 1) (reach_of s.g w s.place a).size ≡ t → (reach_of s.g w s.place a).size < n
-      go true q = absurd (true≢false (sym (reached_takes s w so a (n - 1) h (ltb-true _ _ q)) ∙ e))
+      go true q = absurd (true≢false (sym (reached_takes s a (n - 1) h (ltb-true _ _ q)) ∙ e))
       go false q = omega (arith, ltb-false (n - 1) (reach_of s.g w s.place a).size q)
 
-  module _ (n a top : ℕ) (low high widths tally most choice : List ℕ) (j : Judged s w n a top low high widths tally most choice)
+  module _ (n a top : ℕ) (low high widths tally most choice : List ℕ) (j : Judged s n a top low high widths tally most choice)
       (few : a ≤ 224) (some : 1 ≤ n) (inside : s.place + n ≤ s.end) (longest : (k : ℕ) → k < 32 → (reach_of s.g w s.place (a + k)).size ≤ n) where
     pub judged-small : top ≤ 16 → (k : ℕ) → k < 32 → (get_or most k 0 ≤ n) × (get_or choice k 0 ≤ 16)
     judged-small h k b = (
@@ -70,14 +73,14 @@ module _ (s : Sought) (w : List ℕ) (so : Seeking s w) where
           let win = j.windows k b in
           let wide : 1 ≤ get_or widths k 0 = omega (arith, (j.width k b).0, width_some s.g (get_or low k 0) (get_or high k 0) _ h refl) in
           let one : over.least ≤ over.most = omega (arith, win) in
-          let far : n - 1 < r.size = takes_reached s w so (a + k) (n - 1) (omega arith) (omega arith) (le-leb _ _ one) in
+          let far : n - 1 < r.size = takes_reached s (a + k) (n - 1) (omega arith) (omega arith) (le-leb _ _ one) in
           let e : r.size ≡ n = omega (arith, longest k b) in
-          let suit : r.suit ≡ over = reach-suit s w so (a + k) (omega arith) ∙ ap (λ (m : ℕ). window s.g w (a + k) s.place (m - 1)) e in
+          let suit : r.suit ≡ over = reach-suit s (a + k) (omega arith) ∙ ap (λ (m : ℕ). window s.g w (a + k) s.place (m - 1)) e in
           let least : r.suit.least ≡ get_or low k 0 = ap (λ (i : Intercepts). i.least) suit ∙ sym win.0 in
           let greatest : r.suit.most ≡ get_or high k 0 = ap (λ (i : Intercepts). i.most) suit ∙ sym win.1 in
           record {
             short = λ x. absurd (omega arith);
-            best = λ x. rw ((j.chose k b).0, (j.chose k b).1) (slope-fit_of s w so (a + k) (omega arith) n (get_or low k 0) (get_or high k 0) e least greatest
+            best = λ x. rw ((j.chose k b).0, (j.chose k b).1) (slope-fit_of s (a + k) (omega arith) n (get_or low k 0) (get_or high k 0) e least greatest
                 (counts_of tally k) (get_or widths k 0) (j.width k b).0 (λ c q. j.tallied c k (omega (arith, (j.width k b).1)) b));
           }
 

@@ -3,14 +3,9 @@ use mathlib.Core.Path.{◌≡◌, refl, sym, ◌∙◌}
 use mathlib.Core.Bool.{Bool, true, false}
 use Prim.Native.Nat.{ℕ, ◌+◌, ◌*◌, ◌/◌, ◌≤◌, ◌<◌}
 use native.Mathlib.Omega.{arith}
-use native.Mathlib.Nat.{mul-le-mul}
 use lib.Dec.{eqb}
 use Rattle.model.specs.Learning.{Fit, wrong_at, better}
 use Rattle.model.proofs.Fewest.{Bettered, kept, replaced, bettered}
-
--- a slope times an offset is small
-pub product_small : (a o : ℕ) → a ≤ 256 → o < 256 → a * o ≤ 65280
-product_small a o h k = let q : o ≤ 255 = omega arith in omega (arith, mul-le-mul h q)
 
 -- a prediction is right, or one wrong
 pub wrong-small : (a u o p k : ℕ) → k ≡ wrong_at a u o p → k ≤ 1

@@ -20,9 +20,6 @@ unfolding pick_of
 one_small true n e = omega arith
 one_small false n e = omega arith
 
-pub two_small : (s t : Bool) (n m : ℕ) → n ≡ pick_of s 1 0 → m ≡ pick_of t 1 0 → n + m ≤ 2
-two_small s t n m e f = omega (arith, one_small s n e, one_small t m f)
-
 pub how_many_most : (t : ℕ → Bool) (n : ℕ) → how_many t n ≤ n
 unfolding how_many
 how_many_most t zero = omega arith

@@ -6,7 +6,6 @@ pub mod LineWindows
 pub mod LinesFound
 pub mod SlopeRange
 pub mod WindowReach
-pub mod Signs
 pub mod Narrowing
 pub mod SomeOf
 pub mod LongestOf

@@ -7,7 +7,7 @@ use lib.ListN.{length}
 use Rattle.model.specs.Device.{ceil}
 use Rattle.model.specs.Learning.{Intercepts, suiting, common}
 use Rattle.slopes.specs.Places.{page_at}
-use Rattle.slopes.specs.Slopes.{Seeking, Line, window, suit_at}
+use Rattle.slopes.specs.Slopes.{Line, window, suit_at}
 use Rattle.slopes.specs.declared.windows.Sought.{Sought}
 use Rattle.model.proofs.Ascent.{rises}
 use Rattle.slopes.proofs.Within.{window-within, common-skip}
@@ -22,7 +22,10 @@ within-group x y c e f = omega arith
 spread : (a o m d : ℕ) → a * (o + m * d) ≡ a * o + m * (a * d)
 spread a o m d = omega arith
 
-module _ (s : Sought) (w : List ℕ) (so : Seeking s w) where
+module _ (s : Sought) where
+  abbrev w : List ℕ
+  w = s.written.now
+
   -- a line from place p to place e
   module _ (p e : ℕ) (low : s.place ≤ p) (high : e < s.end) (l : Line w (suc p) e) where
     abbrev d : ℕ
@@ -35,15 +38,15 @@ module _ (s : Sought) (w : List ℕ) (so : Seeking s w) where
         let z : p + suc m ≡ suc (p + m) = omega arith in
         let x : suc p - 1 ≡ p = omega arith in
         let y : suc (p + m) - 1 ≡ p + m = omega arith in
-        let up : page_at w p < page_at w (suc p) = rises w p (suc p) so.ascends (omega arith) (omega (arith, so.end, l.low)) in
+        let up : page_at w p < page_at w (suc p) = rises w p (suc p) s.seeking.ascends (omega arith) (omega (arith, s.seeking.end, l.low)) in
         let f : page_at w (suc (p + m)) - page_at w (p + m) ≡ d = rw (x, y) at (l.steps (suc (p + m)) (omega arith) (omega arith)) in
         rw z (onward _ _ _ d m (omega arith) (page_at_lem m (omega arith)) f)
 
     -- and so do their offsets
     offset_at : (m : ℕ) → p + m ≤ e → page_at w (p + m) % 256 ≡ page_at w p % 256 + m * d
     offset_at m k =
-        let x : page_at w p / 256 ≡ page_at w s.place / 256 = so.group p low (omega (arith, l.low)) in
-        let y : page_at w (p + m) / 256 ≡ page_at w s.place / 256 = so.group (p + m) (omega arith) (omega arith) in
+        let x : page_at w p / 256 ≡ page_at w s.place / 256 = s.seeking.group p low (omega (arith, l.low)) in
+        let y : page_at w (p + m) / 256 ≡ page_at w s.place / 256 = s.seeking.group (p + m) (omega arith) (omega arith) in
         within-group _ _ _ (page_at_lem m k) (y ∙ sym x)
 
     -- a slope a between its ends

@@ -10,7 +10,7 @@ use lib.Seq.{get_or-set_same, get_or-set_other}
 use borrow.Author.Tests.{ltb-true, ltb-false, eqb-true, eqb-false}
 use Rattle.model.specs.Lists.{ascending}
 use Rattle.slopes.specs.Places.{page_at}
-use Rattle.slopes.specs.Slopes.{Line, Lines}
+use Rattle.slopes.specs.Slopes.{Line}
 use Rattle.model.proofs.Ascent.{rises}
 
 -- a line of one step
@@ -43,22 +43,6 @@ pub record Found (w ends : List ℕ) (i e end stride j : ℕ) : Type 0 where
   pub known : (q : ℕ) → i < q → j ≤ q → q < e → (get_or ends q 0 < e) × Line w q (get_or ends q 0)
   pub here : j < e → (end < e) × Line w j end × (stride ≡ page_at w j - page_at w (j - 1))
   pub fresh : e ≤ j → stride ≡ 0
-
-pub found-start : (w ends : List ℕ) (i e : ℕ) → 256 ≤ length ends → Found w ends i e 0 0 e
-found-start w ends i e r = record {
-  small = omega arith;
-  room = r;
-  fits = omega arith;
-  known = λ q h k m. absurd (let z : ⊥ = omega arith in z);
-  here = λ h. absurd (let z : ⊥ = omega arith in z);
-  fresh = λ h. refl;
-}
-
-pub found_all : (w ends : List ℕ) (i e end stride j : ℕ) → Found w ends i e end stride j → j ≤ i + 1 → Lines w ends i e
-found_all w ends i e end stride j f h = record {
-  inside = λ q k m. (f.known q k (omega arith) m).0;
-  line = λ q k m. (f.known q k (omega arith) m).1;
-}
 
 module _ (w ends : List ℕ) (i e end stride j : ℕ) (f : Found w ends i e end stride j)
     (asc : ascending w ≡ true) (whole : e ≤ length w) (few : length w ≤ 256) (low : i + 1 < j) where

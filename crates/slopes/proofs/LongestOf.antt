@@ -6,7 +6,7 @@ use Prim.Native.Nat.{ℕ, zero, suc, ◌+◌, ◌-◌, ◌≤◌, ◌<◌, max}
 use native.Mathlib.Omega.{arith}
 use lib.Dec.{ltb}
 use borrow.Author.Tests.{ltb-true, ltb-false}
-use Rattle.slopes.specs.Slopes.{takes, reach_of, longest_of, some_of, Seeking}
+use Rattle.slopes.specs.Slopes.{takes, reach_of, longest_of, some_of}
 use Rattle.slopes.specs.declared.windows.Sought.{Sought}
 use Rattle.slopes.proofs.SomeOf.{some_one, some_none}
 use Rattle.slopes.proofs.WindowReach.{reach_few, takes_reached, reached_takes}
@@ -32,10 +32,13 @@ module _ (g : ℕ) (w : List ℕ) (i : ℕ) where
       go true e ih = omega (arith, ih (ltb-true a b e))
       go false e ih = let f : b ≤ a = ltb-false a b e in let same : b ≡ a = omega arith in rw same (omega arith)
 
-module _ (s : Sought) (w : List ℕ) (so : Seeking s w) where
+module _ (s : Sought) where
+  abbrev w : List ℕ
+  w = s.written.now
+
   -- a slope that doesn't take the page behind n takes at most n
   pub reach_most : (a n : ℕ) → a ≤ 256 → (s.place + n < s.end → takes s.g w a s.place n ≡ false) → (reach_of s.g w s.place a).size ≤ n
-  reach_most a n h none = go (reach_of s.g w s.place a).size (reach_few s w so a h).1 (λ k. reached_takes s w so a n h k) (ltb n _) refl
+  reach_most a n h none = go (reach_of s.g w s.place a).size (reach_few s a h).1 (λ k. reached_takes s a n h k) (ltb n _) refl
     where
       go : (r : ℕ) → s.place + r ≤ s.end → (n < r → takes s.g w a s.place n ≡ true) → (t : Bool) → ltb n r ≡ t → r ≤ n
       go r few took true e = let k : n < r = ltb-true n r e in absurd (true≢false (sym (took k) ∙ none (omega arith)))
@@ -46,7 +49,7 @@ module _ (s : Sought) (w : List ℕ) (so : Seeking s w) where
       → (s.place + n < s.end → some_of (λ k. takes s.g w (a + k) s.place n) 32 ≡ false) → longest_of s.g w s.place a 31 ≡ n
   longest_is a n h some fit one none =
       let (k, b, t) = some_one (λ k. takes s.g w (a + k) s.place (n - 1)) 32 one in
-      let p = takes_reached s w so (a + k) (n - 1) (omega arith) (omega arith) t in
+      let p = takes_reached s (a + k) (n - 1) (omega arith) (omega arith) t in
       let q = longest_some s.g w s.place a 31 (a + k) (omega arith) (omega arith) in
       let r = longest_most s.g w s.place a 31 n (λ c x y. reach_most c n (omega arith) (λ i. free c x y (none i))) in
       omega arith

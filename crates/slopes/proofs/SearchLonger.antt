@@ -7,32 +7,35 @@ use native.Mathlib.Omega.{arith}
 use lib.Dec.{ltb}
 use borrow.Author.Tests.{ltb-true, ltb-false}
 use Rattle.model.proofs.Bools.{is_false}
-use Rattle.slopes.specs.Slopes.{takes, reach_of, longest_of, Seeking}
+use Rattle.slopes.specs.Slopes.{takes, reach_of, longest_of}
 use Rattle.slopes.specs.declared.windows.Sought.{Sought}
 use Rattle.slopes.proofs.WindowReach.{reach_few}
 use Rattle.slopes.proofs.LongestOf.{longest_most, longest_some, reach_most}
 
 -- the slopes that take the page behind n are from the first to the last
-abbrev pub Among : Sought → List ℕ → ℕ → ℕ → ℕ → Type 0
-Among s w n first last = (a : ℕ) → a ≤ 255 → takes s.g w a s.place n ≡ true → (first ≤ a) × (a ≤ last)
+abbrev pub Among : Sought → ℕ → ℕ → ℕ → Type 0
+Among s n first last = (a : ℕ) → a ≤ 255 → takes s.g s.written.now a s.place n ≡ true → (first ≤ a) × (a ≤ last)
 
-pub among-behind : (s : Sought) (w : List ℕ) (n first last : ℕ) → Among s w (s.place + n - s.place) first last → Among s w n first last
-among-behind s w n first last range = let e : s.place + n - s.place ≡ n = omega arith in rw e at range
+pub among-behind : (s : Sought) (n first last : ℕ) → Among s (s.place + n - s.place) first last → Among s n first last
+among-behind s n first last range = let e : s.place + n - s.place ≡ n = omega arith in rw e at range
 
 -- the slopes from x on and before y are those from `done` on
 abbrev pub Done : ℕ → ℕ → ℕ → Type 0
 Done done x y = (k : ℕ) → x ≤ k → k < y → (done ≤ k) × (k < done + 32)
 
 -- a slope takes `size` pages, more than n, or they are n; none before `next` takes more
-pub record Searched (s : Sought) (w : List ℕ) (n size first last next : ℕ) : Type 0 where
+pub record Searched (s : Sought) (n size first last next : ℕ) : Type 0 where
   pub grown : n ≤ size
   pub inside : s.place + size < s.end
-  pub taken : size ≤ max n (longest_of s.g w s.place 0 255)
+  pub taken : size ≤ max n (longest_of s.g s.written.now s.place 0 255)
   pub few : last ≤ 255
-  pub among : Among s w size first last
-  pub before : (a : ℕ) → a ≤ 255 → a < next → (reach_of s.g w s.place a).size ≤ size
+  pub among : Among s size first last
+  pub before : (a : ℕ) → a ≤ 255 → a < next → (reach_of s.g s.written.now s.place a).size ≤ size
 
-module _ (s : Sought) (w : List ℕ) (so : Seeking s w) where
+module _ (s : Sought) where
+  abbrev w : List ℕ
+  w = s.written.now
+
   abbrev of : ℕ → ℕ
   of a = (reach_of s.g w s.place a).size
 
@@ -45,13 +48,13 @@ module _ (s : Sought) (w : List ℕ) (so : Seeking s w) where
 
   pub longest-few : (a m : ℕ) → a + m ≤ 256 → s.place + longest a m ≤ s.end
   longest-few a m h =
-      omega (arith, longest_most s.g w s.place a m (s.end - s.place) (λ b x y. omega (arith, (reach_few s w so b (omega arith)).1)), so.inside)
+      omega (arith, longest_most s.g w s.place a m (s.end - s.place) (λ b x y. omega (arith, (reach_few s b (omega arith)).1)), s.seeking.inside)
 
-  outside : (n first last a : ℕ) → Among s w n first last → a ≤ 255 → (first ≤ a → a ≤ last → ⊥) → of a ≤ n
-  outside n first last a range h out = reach_most s w so a n (omega arith) (λ i. is_false _ (λ t. out (range a h t).0 (range a h t).1))
+  outside : (n first last a : ℕ) → Among s n first last → a ≤ 255 → (first ≤ a → a ≤ last → ⊥) → of a ≤ n
+  outside n first last a range h out = reach_most s a n (omega arith) (λ i. is_false _ (λ t. out (range a h t).0 (range a h t).1))
 
   -- no slope takes the page behind n
-  pub none_longer : (n first last : ℕ) → Among s w n first last → last < first → n ≡ max n (longest 0 255)
+  pub none_longer : (n first last : ℕ) → Among s n first last → last < first → n ≡ max n (longest 0 255)
   none_longer n first last range h =
       omega (arith, longest_most s.g w s.place 0 255 n (λ b x y. outside n first last b range (omega arith) (λ u v. omega arith)))
 
@@ -60,7 +63,7 @@ module _ (s : Sought) (w : List ℕ) (so : Seeking s w) where
   all_taken n m h k e = omega (arith, longest-few 0 255 (omega arith))
 
   module _ (n done : ℕ) (low : done ≤ 224) (short : longest done 31 ≤ n) where
-    pub searched-start : (first last next : ℕ) → s.place + n < s.end → last ≤ 255 → Among s w n first last → Done done first next → Searched s w n n first last next
+    pub searched-start : (first last next : ℕ) → s.place + n < s.end → last ≤ 255 → Among s n first last → Done done first next → Searched s n n first last next
     searched-start first last next inside few range skipped = record {
       grown = omega arith;
       inside = inside;
@@ -76,7 +79,7 @@ module _ (s : Sought) (w : List ℕ) (so : Seeking s w) where
             let k = skipped a (ltb-false a first e) b in
             omega (arith, longest_some s.g w s.place done 31 a k.0 (omega (arith, k.1)))
 
-    module _ (size first last next : ℕ) (here : Searched s w n size first last next) where
+    module _ (size first last next : ℕ) (here : Searched s n size first last next) where
       pub searched-end : last < next → size ≡ max n (longest 0 255)
       searched-end h =
           omega (arith, longest_most s.g w s.place 0 255 size (λ b x y. go b (omega arith) (ltb b next) refl), here.grown, here.taken)
@@ -91,8 +94,8 @@ module _ (s : Sought) (w : List ℕ) (so : Seeking s w) where
         searched-taken =
             (omega (arith, here.grown), omega (arith, here.taken, longest-part a (omega arith)), omega (arith, here.inside, longest-few a 31 (omega arith)))
 
-        pub searched-turn : (first' last' from next' : ℕ) → s.place + m < s.end → last' ≤ 255 → Among s w m first' last' → from ≡ max (a + 32) first'
-            → Done done from next' → Searched s w n m first' last' next'
+        pub searched-turn : (first' last' from next' : ℕ) → s.place + m < s.end → last' ≤ 255 → Among s m first' last' → from ≡ max (a + 32) first'
+            → Done done from next' → Searched s n m first' last' next'
         searched-turn first' last' from next' inside few range begins skipped = record {
           grown = searched-taken.0;
           inside = inside;

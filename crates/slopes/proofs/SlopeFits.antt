@@ -11,7 +11,7 @@ use Rattle.model.specs.Learning.{Reach, suiting, wrongs, best_of, fit}
 use Rattle.model.proofs.Approximation.{Among, Reaching, reaching}
 use Rattle.model.proofs.Greedy.{best-size}
 use Rattle.slopes.specs.Places.{page_at, offsets_behind, offsets_from}
-use Rattle.slopes.specs.Slopes.{place_bounds, reach_of, fit_of, Seeking}
+use Rattle.slopes.specs.Slopes.{place_bounds, reach_of, fit_of}
 use Rattle.slopes.specs.Counting.{how_many, width_of, above_at, tally_of, most_of, choice_of}
 use Rattle.slopes.specs.declared.windows.Sought.{Sought}
 use Rattle.slopes.proofs.AheadOf.{behind_at}
@@ -24,7 +24,10 @@ pub fit-size : (g : ℕ) (w : List ℕ) (i a : ℕ) → (fit_of g w i a).size �
 unfolding fit_of fit reach_of
 fit-size g w i a = best-size i _ _ a _ _
 
-module _ (s : Sought) (w : List ℕ) (so : Seeking s w) (a : ℕ) (slope : a ≤ 256) where
+module _ (s : Sought) (a : ℕ) (slope : a ≤ 256) where
+  abbrev w : List ℕ
+  w = s.written.now
+
   -- the place, how far the slope goes from there, its least intercept, and the offsets
   abbrev i : ℕ
   i = s.place
@@ -40,7 +43,7 @@ module _ (s : Sought) (w : List ℕ) (so : Seeking s w) (a : ℕ) (slope : a ≤
 
   reached : Reaching (place_bounds s.g w) a i xs r
   unfolding reach_of
-  reached = reaching (place_bounds s.g w) a i (page_at w i % 256) (offsets_behind w i) (omega arith) (omega (arith, so.inside, so.end))
+  reached = reaching (place_bounds s.g w) a i (page_at w i % 256) (offsets_behind w i) (omega arith) (omega (arith, s.seeking.inside, s.seeking.end))
 
   -- the least intercept suits each page
   suits : (j : ℕ) → j < r.size → Among (suiting (place_bounds s.g w) a (get_or xs j 0) (i + j)) low
@@ -56,7 +59,7 @@ module _ (s : Sought) (w : List ℕ) (so : Seeking s w) (a : ℕ) (slope : a ≤
   tally-right : (c : ℕ) → c ≤ 15 → wrongs a (low + c) i (take r.size xs) + tally_of w a i low r.size c ≡ r.size
   unfolding tally_of above_at
   tally-right c h = wrongs-others a (low + c) i r.size xs _ reached.inside (λ j k.
-      let right = above-right s.g (length w - 1) a (get_or xs j 0) (i + j) low so.bound slope (small j k) (suits j k) c h in
+      let right = above-right s.g (length w - 1) a (get_or xs j 0) (i + j) low s.seeking.bound slope (small j k) (suits j k) c h in
       right_or_wrong a (low + c) (get_or xs j 0) (i + j) _ (rw (← (offset j k)) right))
 
   -- .. and an intercept beyond g has none
@@ -65,7 +68,7 @@ module _ (s : Sought) (w : List ℕ) (so : Seeking s w) (a : ℕ) (slope : a ≤
       let z : how_many (λ j. false) r.size ≡ 0 = how_many_none (λ j. false) r.size (λ j k. refl) in
       let e : wrongs a (low + c) i (take r.size xs) + how_many (λ j. false) r.size ≡ r.size =
       wrongs-others a (low + c) i r.size xs (λ j. false) reached.inside (λ j k.
-      let wrong = beyond-wrong s.g (length w - 1) a (get_or xs j 0) (i + j) low so.bound slope (small j k) (suits j k) c h in
+      let wrong = beyond-wrong s.g (length w - 1) a (get_or xs j 0) (i + j) low s.seeking.bound slope (small j k) (suits j k) c h in
       right_or_wrong a (low + c) (get_or xs j 0) (i + j) false wrong) in
       omega (arith, z, e)
 
@@ -79,7 +82,7 @@ module _ (s : Sought) (w : List ℕ) (so : Seeking s w) (a : ℕ) (slope : a ≤
       let width : n ≡ suc m = e ∙ sym (width_some s.g low r.suit.most m reached.some refl) ∙ add-one m in
       let all : r.suit.most - low ≡ m + d = omega arith in
       let few : best_of i xs r.size a low m ≡ chosen_of i xs r.size a low t (suc m) =
-      best-chosen i xs r.size a low t m (λ c h. rw (f c (omega arith)) (tally-right c (omega (arith, so.bound)))) in
+      best-chosen i xs r.size a low t m (λ c h. rw (f c (omega arith)) (tally-right c (omega (arith, s.seeking.bound)))) in
       let rest : best_of i xs r.size a low (m + d) ≡ best_of i xs r.size a low m =
       best-rest i xs r.size a low m d (best-size i xs r.size a low m) (rw few (omega arith)) (λ c h k. beyond_none c (omega arith)) in
       rw width (ap (best_of i xs r.size a low) all ∙ rest ∙ few)

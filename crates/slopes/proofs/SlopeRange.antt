@@ -12,7 +12,7 @@ use Rattle.model.specs.Device.{ceil}
 use Rattle.model.specs.Learning.{Intercepts, suiting}
 use Rattle.model.proofs.Approximation.{rise-small}
 use Rattle.slopes.specs.Places.{page_at}
-use Rattle.slopes.specs.Slopes.{Seeking, suit_at, window, takes}
+use Rattle.slopes.specs.Slopes.{suit_at, window, takes}
 use Rattle.slopes.specs.declared.windows.Sought.{Sought}
 use Rattle.model.proofs.Ascent.{rises}
 use Rattle.slopes.proofs.Within.{Within, window-within}
@@ -33,7 +33,10 @@ rise_least x t h l e k = omega arith
 pub first_small : (l h d : ℕ) → l ≤ 255 → (l - h - 1) * 256 / d + 1 < 4294967296
 first_small l h d k = omega (arith, div-le_self ((l - h - 1) * 256) d)
 
-module _ (s : Sought) (w : List ℕ) (so : Seeking s w) (q : ℕ) (low : s.place < q) (high : q < s.end) where
+module _ (s : Sought) (q : ℕ) (low : s.place < q) (high : q < s.end) where
+  abbrev w : List ℕ
+  w = s.written.now
+
   abbrev x : ℕ
   x = page_at w s.place
 
@@ -41,7 +44,7 @@ module _ (s : Sought) (w : List ℕ) (so : Seeking s w) (q : ℕ) (low : s.place
   y = page_at w q
 
   pub apart : x < y
-  apart = rises w s.place q so.ascends low (omega (arith, so.end))
+  apart = rises w s.place q s.seeking.ascends low (omega (arith, s.seeking.end))
 
   -- the lowest and the highest prediction at a place
   abbrev least : ℕ → ℕ
@@ -72,7 +75,7 @@ module _ (s : Sought) (w : List ℕ) (so : Seeking s w) (q : ℕ) (low : s.place
 
     rises_by : a * (y % 256) ≡ a * (x % 256) + a * (y - x)
     rises_by =
-        let e : y % 256 ≡ x % 256 + (y - x) = omega (arith, apart, so.group q (omega arith) high) in
+        let e : y % 256 ≡ x % 256 + (y - x) = omega (arith, apart, s.seeking.group q (omega arith) high) in
         rw e (omega arith)
 
     -- from the one to the other it rises by no more and no less than the predictions may
@@ -80,7 +83,7 @@ module _ (s : Sought) (w : List ℕ) (so : Seeking s w) (q : ℕ) (low : s.place
         × (least q + ceil (a * (x % 256)) 256 ≤ most s.place + ceil (a * (x % 256) + a * (y - x)) 256)
     unfolding suit_at suiting
     meets =
-        let z : length w - 1 ≡ s.last = omega (arith, so.last) in
+        let z : length w - 1 ≡ s.last = omega (arith, s.seeking.last) in
         rw (max-zero (least s.place), max-zero (least q), z, rises_by) at (meeting _ _ _ _ _ _
         (rise-small a (x % 256) (omega arith) (omega arith)) (rise-small a (y % 256) (omega arith) (omega arith)) ends_meet.0 ends_meet.1)
 

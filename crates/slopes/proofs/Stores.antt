@@ -20,15 +20,6 @@ pub record Storing (at : ℕ) (f : ℕ → ℕ) (l₀ l : List ℕ) (k : ℕ) : 
   pub behind : (j : ℕ) → at + k ≤ j → get_or l j 0 ≡ get_or l₀ j 0
 
 module _ (at : ℕ) (f : ℕ → ℕ) (l₀ : List ℕ) where
-  pub storing_start : Storing at f l₀ l₀ 0
-  storing_start = record {
-    few = omega arith;
-    long = refl;
-    done = λ j k. absurd (omega arith);
-    below = λ j k. refl;
-    behind = λ j k. refl;
-  }
-
   pub storing_turn : (l : List ℕ) (k i v : ℕ) → at + 32 ≤ length l₀ → i ≡ at + k → k < 32 → v ≡ f k → Storing at f l₀ l k
       → Storing at f l₀ (set l i v) (k + 1)
   storing_turn l k i v w e h q s = record {
@@ -47,14 +38,6 @@ module _ (at : ℕ) (f : ℕ → ℕ) (l₀ : List ℕ) where
           let n : j ≢ k = eqb-false j k z in
           get_or-set_other l i (at + j) v 0 (λ y. n (omega arith)) ∙ s.done j (omega arith)
 
-  pub storing_end : (l : List ℕ) (k : ℕ) → 32 ≤ k → Storing at f l₀ l k → Stored at f l₀ l
-  storing_end l k h s = record {
-    long = s.long;
-    here = λ j m. s.done j (omega arith);
-    below = s.below;
-    behind = λ j m. s.behind j (omega (arith, s.few));
-  }
-
 -- n times 32 numbers are stored, from the first on
 pub record Blocks (f : ℕ → ℕ → ℕ) (l₀ l : List ℕ) (n : ℕ) : Type 0 where
   pub long : length l ≡ length l₀
@@ -62,9 +45,6 @@ pub record Blocks (f : ℕ → ℕ → ℕ) (l₀ l : List ℕ) (n : ℕ) : Type
   pub rest : (j : ℕ) → 32 * n ≤ j → get_or l j 0 ≡ get_or l₀ j 0
 
 module _ (f : ℕ → ℕ → ℕ) (l₀ : List ℕ) where
-  pub blocks_start : Blocks f l₀ l₀ 0
-  blocks_start = record { long = refl; done = λ i k h. absurd (omega arith); rest = λ j h. refl }
-
   pub blocks-turn : (l l' : List ℕ) (n at : ℕ) (f' : ℕ → ℕ) → at ≡ 32 * n → ((k : ℕ) → k < 32 → f' k ≡ f n k) → Blocks f l₀ l n
       → Stored at f' l l' → Blocks f l₀ l' (n + 1)
   blocks-turn l l' n at f' e q b s = record {

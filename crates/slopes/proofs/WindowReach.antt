@@ -10,7 +10,7 @@ use borrow.Author.Tests.{leb-true, le-leb, ltb-true, ltb-false}
 use Rattle.model.specs.Device.{ceil}
 use Rattle.model.specs.Learning.{Intercepts, Reach, suiting, common, longer, extend, reach}
 use Rattle.slopes.specs.Places.{page_at, ahead_of, offsets_behind}
-use Rattle.slopes.specs.Slopes.{place_bounds, suit_at, window, takes, reach_of, Seeking}
+use Rattle.slopes.specs.Slopes.{place_bounds, suit_at, window, takes, reach_of}
 use Rattle.slopes.specs.declared.windows.Sought.{Sought}
 use Rattle.slopes.proofs.AheadOf.{Goes, ahead-goes}
 
@@ -105,7 +105,10 @@ module _ (g : ℕ) (w : List ℕ) (a i k e : ℕ) (inside : e ≤ length w) (gro
       go true t ih = deeper m _ _ (goes_on_lem m p here on t) (ih t)
       go false t ih = stays m (behind m p) (breaks m p here on t) (omega arith) took (λ h. t)
 
-module _ (s : Sought) (w : List ℕ) (so : Seeking s w) where
+module _ (s : Sought) where
+  abbrev w : List ℕ
+  w = s.written.now
+
   -- one page, and as many behind it as leave an intercept
   record Reached (a : ℕ) (r : Reach) : Type 0 where
     more : Reach
@@ -117,11 +120,11 @@ module _ (s : Sought) (w : List ℕ) (so : Seeking s w) where
   reached a =
       let z : suc s.place ≡ s.place + 1 = omega arith in
       let k : ℕ = page_at w s.place / 256 in
-      let t = takes_one s.g w a s.place (omega (arith, so.inside, so.end)) in
+      let t = takes_one s.g w a s.place (omega (arith, s.seeking.inside, s.seeking.end)) in
       record {
         more = _;
         is = ap (λ (p : ℕ). longer (extend (place_bounds s.g w) a (window s.g w a s.place 0) p (ahead_of w k (s.place + 1)))) z;
-        extends = extended s.g w a s.place k s.end so.end so.group so.ended (s.end - (s.place + 1)) 0 (s.place + 1) (omega arith) (omega (arith, so.inside)) t;
+        extends = extended s.g w a s.place k s.end s.seeking.end s.seeking.group s.seeking.ended (s.end - (s.place + 1)) 0 (s.place + 1) (omega arith) (omega (arith, s.seeking.inside)) t;
       }
 
   pub reach_few : (a : ℕ) → a ≤ 256 → (1 ≤ (reach_of s.g w s.place a).size) × (s.place + (reach_of s.g w s.place a).size ≤ s.end)

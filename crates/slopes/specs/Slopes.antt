@@ -6,7 +6,6 @@ use Rattle.model.specs.Device.{ceil}
 use Rattle.model.specs.Learning as model
 use Rattle.model.specs.Learning.{suiting, common, reach, fit, better}
 use Rattle.slopes.specs.Places.{page_at, ahead_of, offsets_behind}
-use Rattle.slopes.specs.declared.windows.Sought.{Sought}
 
 -- what predictions keep to, in places: within g, from the batch's first place to its last
 abbrev pub place_bounds : ℕ → List ℕ → model.Bounds
@@ -48,16 +47,16 @@ unfoldable pub some_of : (ℕ → Bool) → ℕ → Bool
 some_of t zero = false
 some_of t (suc n) = some_of t n || t n
 
--- the run at a place of the batch is sought
-pub record Seeking (s : Sought) (w : List ℕ) : Type 0 where
+-- the run at a place of the batch w is sought, among the pages before place e, with the error bound g, and l is the last place
+pub record Seeking (i e g l : ℕ) (w : List ℕ) : Type 0 where
   pub ascends : ascending w ≡ true
   pub size : length w ≤ 256
-  pub bound : s.g ≤ 15
-  pub last : s.last + 1 ≡ length w
-  pub inside : s.place < s.end
-  pub end : s.end ≤ length w
-  pub group : (q : ℕ) → s.place ≤ q → q < s.end → page_at w q / 256 ≡ page_at w s.place / 256
-  pub ended : ahead_of w (page_at w s.place / 256) s.end ≡ []
+  pub bound : g ≤ 15
+  pub last : l + 1 ≡ length w
+  pub inside : i < e
+  pub end : e ≤ length w
+  pub group : (q : ℕ) → i ≤ q → q < e → page_at w q / 256 ≡ page_at w i / 256
+  pub ended : ahead_of w (page_at w i / 256) e ≡ []
 
 -- the list has 32 numbers, and they are the same with a sign
 abbrev pub Small : List ℕ → Type 0

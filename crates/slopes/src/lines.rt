@@ -16,9 +16,7 @@ pub fn find_lines(written: &[u32], i: usize, e: usize, ends: &mut [u8; PLACES])
 {
     let mut end = 0;
     let mut stride = 0;
-    let mut j = e;
-    while i + 1 < j {
-        j -= 1;
+    for j in (i + 1..e).rev() {
         let here = written[j] - written[j - 1];
         if here != stride {
             end = j;
@@ -28,21 +26,12 @@ pub fn find_lines(written: &[u32], i: usize, e: usize, ends: &mut [u8; PLACES])
     }
 }
 
-// The last place, before `end`, of the line at place q.
-pub(crate) fn line_end(
-    written: &[u32],
-    ends: &[u8; PLACES],
-    s: Sought,
-    q: usize,
-    end: usize,
-) -> usize
-    requires { Lines written.now ends.now s.place s.end × (s.place < q) × (q < end) × (end ≤ s.end)
-        × (s.end ≤ length written.now) × (length written.now ≤ 256) }
-    ensures { Line written.now q result × (result < end) }
-{
-    let e = ends[q] as usize;
-    if end <= e {
-        return end - 1;
+impl Sought<'_> {
+    // The last place, before `end`, of the line at place q.
+    pub(crate) fn line_end(&self, q: usize, end: usize) -> usize
+        requires { (self.now.place < q) × (q < end) × (end ≤ self.now.end) }
+        ensures { Line self.now.written.now q result × (result < end) }
+    {
+        usize::from(self.ends[q]).min(end - 1)
     }
-    e
 }

@@ -1,11 +1,8 @@
 // How far the slopes go from a place on: the longest approximate run. Only slopes that may go farther than the longest so far are followed.
-ghost use Rattle.std.specs.Prelude.{◌≡◌, true, false, ℕ, ◌+◌, ◌-◌, ◌<◌, ◌≤◌, min, max};
-ghost use Rattle.slopes.specs.Slopes.{Seeking, Lines, Windows, some_of, takes, longest_of};
+ghost use Rattle.std.specs.Prelude.{◌≡◌, true, false, ℕ, ◌+◌, ◌-◌, ◌<◌, ◌≤◌, max};
+ghost use Rattle.slopes.specs.Slopes.{Windows, some_of, takes, longest_of};
 
-use crate::lines::{PLACES, line_end};
-use crate::windows::{
-    ABOVE, AT_ONCE, LAST_BEGIN, STEP, Sought, begin, highest, lowest, narrow_by, some_left,
-};
+use crate::windows::{Intercepts, LAST_BEGIN, STEP, Sought};
 
 // The last slope that is needed: 256 predicts as 255 does, at every offset.
 const LAST_SLOPE: u32 = 255;
@@ -17,103 +14,71 @@ pub(crate) struct Slopes {
     pub last: u32,
 }
 
-// The smaller of two numbers.
-pub(crate) fn smaller(n: u32, m: u32) -> u32
-    ensures { result ≡ min n m }
-{
-    if n < m {
-        return n;
-    }
-    m
-}
-
-// The greater of two numbers.
-fn greater(n: u32, m: u32) -> u32
-    ensures { result ≡ max n m }
-{
-    if n < m {
-        return m;
-    }
-    n
-}
-
 // The slopes that may take the page at place q: from the first page to it a prediction rises by as much as the slope does, rounded up or
 // down.
-pub(crate) fn slopes_to(written: &[u32], s: Sought, q: usize) -> Slopes
-    requires { Seeking s written.now × (s.place < q) × (q < s.end) }
-    ensures { (result.last ≤ 255) × ((a : ℕ) → a ≤ 255 → takes s.g written.now a s.place (q - s.place) ≡ true → (result.first ≤ a) × (a ≤ result.last)) }
+pub(crate) fn slopes_to(s: &Sought, q: usize) -> Slopes
+    requires { (s.now.place < q) × (q < s.now.end) }
+    ensures { (result.last ≤ 255)
+        × ((a : ℕ) → a ≤ 255 → takes s.now.g s.now.written.now a s.now.place (q - s.now.place) ≡ true
+        → (result.first ≤ a) × (a ≤ result.last)) }
 {
     let i = s.place;
-    let d = written[q] - written[i];
-    let least = lowest(s, q as u32);
-    let from = highest(s, i as u32);
-    let most = highest(s, q as u32);
-    let down = lowest(s, i as u32);
-    let last = smaller(((most - down + 1) * 256 - 1) / d, LAST_SLOPE);
-    if least <= from {
-        return Slopes { first: 0, last };
-    }
-    Slopes {
-        first: (least - from - 1) * 256 / d + 1,
-        last,
-    }
+    let d = s.written[q] - s.written[i];
+    let least = s.lowest(q as u32);
+    let from = s.highest(i as u32);
+    let most = s.highest(q as u32);
+    let down = s.lowest(i as u32);
+    let last = (((most - down + 1) * 256 - 1) / d).min(LAST_SLOPE);
+    let first = if least <= from {
+        0
+    } else {
+        (least - from - 1) * 256 / d + 1
+    };
+    Slopes { first, last }
 }
 
 // The place behind the last page that one of 32 slopes from a on takes, where one takes all pages before place `from`, and none the one
 // at place e.
-fn within_line(
-    written: &[u32],
-    s: Sought,
-    a: u32,
-    from: usize,
-    e: usize,
-    low: &mut [u16; AT_ONCE],
-    high: &mut [u16; AT_ONCE],
-) -> usize
-    requires { Seeking s written.now × (a ≤ 224) × (s.place < from) × (from ≤ e) × (e < s.end)
-        × Windows s.g written.now a s.place (from - 1 - s.place) low.old high.old
-        × (some_of (λ k. takes s.g written.now (a + k) s.place (from - 1 - s.place)) 32 ≡ true)
-        × (some_of (λ k. takes s.g written.now (a + k) s.place (e - s.place)) 32 ≡ false) }
-    ensures { result ≡ s.place + longest_of s.g written.now s.place a 31 }
+fn within_line(s: &Sought, a: u32, from: usize, e: usize, suiting: &mut Intercepts) -> usize
+    requires { (a ≤ 224) × (s.now.place < from) × (from ≤ e) × (e < s.now.end)
+        × Windows s.now.g s.now.written.now a s.now.place (from - 1 - s.now.place) suiting.old.low suiting.old.high
+        × (some_of (λ k. takes s.now.g s.now.written.now (a + k) s.now.place (from - 1 - s.now.place)) 32 ≡ true)
+        × (some_of (λ k. takes s.now.g s.now.written.now (a + k) s.now.place (e - s.now.place)) 32 ≡ false) }
+    ensures { result ≡ s.now.place + longest_of s.now.g s.now.written.now s.now.place a 31 }
 {
-    let mut q = from;
-    while q < e {
-        narrow_by(written, s, q, a, low, high);
-        if !some_left(low, high) {
+    for q in from..e {
+        suiting.narrow_by(s, q, a);
+        if !suiting.some_left() {
             return q;
         }
-        q += 1;
     }
-    q
+    e
 }
 
 // The place behind the last page that one of 32 slopes from a on takes. They are followed from line to line.
-fn farthest(written: &[u32], ends: &[u8; PLACES], s: Sought, a: u32) -> usize
-    requires { Seeking s written.now × Lines written.now ends.now s.place s.end × (a ≤ 224) }
-    ensures { result ≡ s.place + longest_of s.g written.now s.place a 31 }
+fn farthest(s: &Sought, a: u32) -> usize
+    requires { a ≤ 224 }
+    ensures { result ≡ s.now.place + longest_of s.now.g s.now.written.now s.now.place a 31 }
 {
-    let mut low = [0u16; AT_ONCE];
-    let mut high = [ABOVE; AT_ONCE];
-    begin(written, s, a, &mut low, &mut high);
+    let mut suiting = Intercepts::new(s, a);
     let mut q = s.place + 1;
+    // Kept: no range: a turn goes on by one page or to behind a line, whose end line_end tells.
     while q < s.end {
-        let e = line_end(written, ends, s, q, s.end);
+        let e = s.line_end(q, s.end);
         if q == e {
-            narrow_by(written, s, q, a, &mut low, &mut high);
-            if !some_left(&low, &high) {
+            suiting.narrow_by(s, q, a);
+            if !suiting.some_left() {
                 return q;
             }
             q += 1;
             continue;
         }
-        let mut next_low = low;
-        let mut next_high = high;
-        narrow_by(written, s, e, a, &mut next_low, &mut next_high);
-        if !some_left(&next_low, &next_high) {
-            return within_line(written, s, a, q, e, &mut low, &mut high);
+        let mut next = suiting;
+        next.narrow_by(s, e, a);
+        if !next.some_left() {
+            return within_line(s, a, q, e, &mut suiting);
         }
-        low = next_low;
-        high = next_high;
+        suiting = next;
         q = e + 1;
     }
     q
@@ -126,21 +91,15 @@ const HALF: u32 = 16;
 
 // The first of 32 slopes to begin with: around the middle of those that may take a page some way ahead, and that may take the one behind
 // n pages.
-fn guess(written: &[u32], s: Sought, n: usize, w: Slopes) -> u32
-    requires { Seeking s written.now × (1 ≤ n) × (s.place + n < s.end) }
+fn guess(s: &Sought, n: usize, w: Slopes) -> u32
+    requires { (1 ≤ n) × (s.now.place + n < s.now.end) }
     ensures { result ≤ 224 }
 {
-    let mut q = s.place + n + AHEAD;
-    if s.end <= q {
-        q = s.end - 1;
-    }
-    let t = slopes_to(written, s, q);
-    let middle = (smaller(t.first, 256) + t.last) / 2;
-    let m = smaller(greater(middle, w.first), w.last);
-    if m < HALF {
-        return 0;
-    }
-    smaller(m - HALF, LAST_BEGIN)
+    let q = (s.place + n + AHEAD).min(s.end - 1);
+    let t = slopes_to(s, q);
+    let middle = (t.first.min(256) + t.last) / 2;
+    let m = middle.max(w.first).min(w.last);
+    m.saturating_sub(HALF).min(LAST_BEGIN)
 }
 
 // The first slope from a on that isn't one of the 32 from `done` on.
@@ -148,78 +107,63 @@ fn undone(a: u32, done: u32) -> u32
     requires { done ≤ 224 }
     ensures { (a ≤ result) × ((k : ℕ) → a ≤ k → k < result → (done ≤ k) × (k < done + 32)) }
 {
-    if a < done {
-        return a;
-    }
-    greater(a, done + STEP)
+    if a < done { a } else { a.max(done + STEP) }
 }
 
 // How many pages the longest of 32 slopes from a on takes, if they are more than n; otherwise n.
-fn longer(written: &[u32], ends: &[u8; PLACES], s: Sought, n: usize, a: u32) -> usize
-    requires { Seeking s written.now × Lines written.now ends.now s.place s.end × (1 ≤ n) × (s.place + n < s.end) × (a ≤ 224) }
-    ensures { result ≡ max n (longest_of s.g written.now s.place a 31) }
+fn longer(s: &Sought, n: usize, a: u32) -> usize
+    requires { (1 ≤ n) × (s.now.place + n < s.now.end) × (a ≤ 224) }
+    ensures { result ≡ max n (longest_of s.now.g s.now.written.now s.now.place a 31) }
 {
-    let m = farthest(written, ends, s, a) - s.place;
-    if n < m {
-        return m;
-    }
-    n
+    n.max(farthest(s, a) - s.place)
 }
 
 // How many pages the longest run takes: n, or as many as a slope does if they are more. The 32 slopes from `done` on take no more, and
 // those that take the page behind them are from `among`'s first to its last.
-fn longest_of(
-    written: &[u32],
-    ends: &[u8; PLACES],
-    s: Sought,
-    n: usize,
-    among: Slopes,
-    done: u32,
-) -> usize
-    requires { Seeking s written.now × Lines written.now ends.now s.place s.end × (1 ≤ n) × (s.place + n < s.end) × (done ≤ 224)
-        × (longest_of s.g written.now s.place done 31 ≤ n) × (among.last ≤ 255)
-        × ((a : ℕ) → a ≤ 255 → takes s.g written.now a s.place n ≡ true → (among.first ≤ a) × (a ≤ among.last)) }
-    ensures { result ≡ max n (longest_of s.g written.now s.place 0 255) }
+fn longest_of(s: &Sought, n: usize, among: Slopes, done: u32) -> usize
+    requires { (1 ≤ n) × (s.now.place + n < s.now.end) × (done ≤ 224)
+        × (longest_of s.now.g s.now.written.now s.now.place done 31 ≤ n) × (among.last ≤ 255)
+        × ((a : ℕ) → a ≤ 255 → takes s.now.g s.now.written.now a s.now.place n ≡ true → (among.first ≤ a) × (a ≤ among.last)) }
+    ensures { result ≡ max n (longest_of s.now.g s.now.written.now s.now.place 0 255) }
 {
     let i = s.place;
     let mut size = n;
     let mut w = among;
     let mut next = undone(w.first, done);
+    // Kept: no range: the slopes to look at, from next to w.last, get fewer with each longer run.
     while next <= w.last {
-        let a = smaller(next, LAST_BEGIN);
-        let m = longer(written, ends, s, size, a);
-        if m == size {
-            next = undone(greater(a + STEP, w.first), done);
-            continue;
+        let a = next.min(LAST_BEGIN);
+        let m = longer(s, size, a);
+        if m != size {
+            size = m;
+            if i + size == s.end {
+                return size;
+            }
+            w = slopes_to(s, i + size);
         }
-        size = m;
-        if i + size == s.end {
-            return size;
-        }
-        w = slopes_to(written, s, i + size);
-        next = undone(greater(a + STEP, w.first), done);
+        next = undone((a + STEP).max(w.first), done);
     }
     size
 }
 
 // How many pages the longest run takes: n, or as many as a slope does if they are more.
-pub fn longest(written: &[u32], ends: &[u8; PLACES], s: Sought, n: usize) -> usize
-    requires { Seeking s written.now × Lines written.now ends.now s.place s.end × (1 ≤ n) × (s.place + n < s.end) }
-    ensures { result ≡ max n (longest_of s.g written.now s.place 0 255) }
+pub fn longest(s: &Sought, n: usize) -> usize
+    requires { (1 ≤ n) × (s.now.place + n < s.now.end) }
+    ensures { result ≡ max n (longest_of s.now.g s.now.written.now s.now.place 0 255) }
 {
     let i = s.place;
-    let w = slopes_to(written, s, i + n);
+    let w = slopes_to(s, i + n);
     if w.last < w.first {
         return n;
     }
-    let done = guess(written, s, n, w);
-    let t = farthest(written, ends, s, done) - i;
+    let done = guess(s, n, w);
+    let t = farthest(s, done) - i;
     if t <= n {
-        return longest_of(written, ends, s, n, w, done);
+        return longest_of(s, n, w, done);
     }
     if i + t == s.end {
         return t;
     }
-    let v = slopes_to(written, s, i + t);
-    longest_of(written, ends, s, t, v, done)
+    let v = slopes_to(s, i + t);
+    longest_of(s, t, v, done)
 }

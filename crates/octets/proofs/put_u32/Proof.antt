@@ -1,9 +1,0 @@
--- `put_u32` meets its contract: the stores of the two halves are one store.
-use Rattle.octets.proofs.Digits.{four-stored}
-use borrow.Author.Rules.{rules}
-use Rattle.octets.proofs.put_u32.Statement.{statement}
-use Rattle.octets.proofs.put_u32.Tie as tie
-
-pub put_u32_spec : {M : Type 1} → statement M
-put_u32_spec = tie.close (tie.spec (λ c κs. search rules) (λ c. search rules) (λ c κs. search rules) (λ c. search rules)
-    (λ c. search (four-stored, rules)))
