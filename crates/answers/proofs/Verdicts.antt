@@ -4,13 +4,12 @@ use mathlib.Core.List.{List}
 use mathlib.Core.Option.{Option, none, some}
 use Prim.Native.Nat.{ℕ}
 use native.Mathlib.Omega.{arith}
+use Rattle.std.specs.Prelude.{Result, Ok, Err}
 use Rattle.model.specs.Device.{Device}
 use Rattle.calls.specs.Refusals.{Refusal, Check, first_refusal}
 use Rattle.front.specs.Read.{numbers_of}
 use Rattle.front.specs.declared.Numbers.{Numbers}
 use Rattle.answers.specs.declared.Refusal as code
-use Rattle.answers.specs.declared.Opened.{Opened}
-use Rattle.answers.specs.declared.Opened.TheVariants as opened
 use Rattle.answers.specs.Answers.{refusal_of}
 use Rattle.answers.specs.Opening.{passes, refuses, verdict_by, verdict, verdict_of}
 
@@ -25,8 +24,8 @@ module _ (cs : List Check) (numbers : Device) where
   says-passed e n = rw (e, n)
 
 -- .. and this is what it says.
-module _ (cs : List Check) (numbers : Device) (o : Opened) (h : verdict_of o ≡ verdict cs numbers) where
-  pub refused_first : (r : code.Refusal) → o ≡ opened.Refused r → first_refusal cs ≡ some (refusal_of r)
+module _ (cs : List Check) (numbers : Device) (o : Result Numbers code.Refusal) (h : verdict_of o ≡ verdict cs numbers) where
+  pub refused_first : (r : code.Refusal) → o ≡ Err r → first_refusal cs ≡ some (refusal_of r)
   unfolding verdict_of verdict_by
   refused_first r e = go (first_refusal cs) (ap verdict_of (sym e) ∙ h)
     where
@@ -34,7 +33,7 @@ module _ (cs : List Check) (numbers : Device) (o : Opened) (h : verdict_of o ≡
       go none q = let z : ◌≡◌ {A = ℕ} 0 1 = cc in absurd (omega arith)
       go (some p) q = cc
 
-  pub passed_all : (d : Numbers) → o ≡ opened.Device d → (first_refusal cs ≡ none) × (numbers ≡ numbers_of d)
+  pub passed_all : (d : Numbers) → o ≡ Ok d → (first_refusal cs ≡ none) × (numbers ≡ numbers_of d)
   unfolding verdict_of verdict_by
   passed_all d e = go (first_refusal cs) (ap verdict_of (sym e) ∙ h)
     where

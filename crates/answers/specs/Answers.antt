@@ -1,30 +1,14 @@
 -- Document 01's number and values for each case of the calls' answers, through the answers of the definitions. Assumes nothing.
-use Rattle.std.specs.Prelude.{true, false}
+use Rattle.std.specs.Prelude.{ℕ, Bool, Option, Some, None, Result, Ok, Err, ⊤}
 use Rattle.calls.specs.Refusals as calls
 use Rattle.calls.specs.Outcome as outcome
 use Rattle.calls.specs.Lookup as looked
 use Rattle.answers.specs.declared.Refusal.{Refusal}
 use Rattle.answers.specs.declared.Refusal.TheVariants.{BadNumbers, BadLength, NotSound, OutOfRange, BadBatch, NoFreeBlock, NotNamed, NothingToGain}
-use Rattle.answers.specs.declared.Formatted.{Formatted}
-use Rattle.answers.specs.declared.Formatted.TheVariants as formatted
 use Rattle.answers.specs.declared.Flushed.{Flushed}
-use Rattle.answers.specs.declared.Flushed.TheVariants as flushed
-use Rattle.answers.specs.declared.Lookup.{Lookup}
-use Rattle.answers.specs.declared.Lookup.TheVariants as lookup
-use Rattle.answers.specs.declared.PlainLookup.{PlainLookup}
-use Rattle.answers.specs.declared.PlainLookup.TheVariants as plain
-use Rattle.answers.specs.declared.Discarded.{Discarded}
-use Rattle.answers.specs.declared.Discarded.TheVariants as discarded
+use Rattle.answers.specs.declared.Looked.{Looked}
+use Rattle.answers.specs.declared.Looked.TheVariants.{Found, NotWritten}
 use Rattle.answers.specs.declared.Collected.{Collected}
-use Rattle.answers.specs.declared.Collected.TheVariants as collected
-use Rattle.answers.specs.declared.Compacted.{Compacted}
-use Rattle.answers.specs.declared.Compacted.TheVariants as compacted
-use Rattle.answers.specs.declared.Agreed.{Agreed}
-use Rattle.answers.specs.declared.Agreed.TheVariants as agreed
-use Rattle.answers.specs.declared.Listed.{Listed}
-use Rattle.answers.specs.declared.Listed.TheVariants as listed
-use Rattle.answers.specs.declared.Explained.{Explained}
-use Rattle.answers.specs.declared.Explained.TheVariants as explained
 
 unfoldable pub refusal_of : Refusal → calls.Refusal
 refusal_of BadNumbers = calls.bad_numbers
@@ -36,52 +20,52 @@ refusal_of NoFreeBlock = calls.no_free_block
 refusal_of NotNamed = calls.not_named
 refusal_of NothingToGain = calls.nothing_to_gain
 
-unfoldable pub format_answer : Formatted → outcome.Answer
-format_answer formatted.Done = outcome.formatted
-format_answer (formatted.Refused r) = outcome.refused (refusal_of r)
+-- what an accepted call came to, or its refusal
+unfoldable pub answer_by : {A : Type 0} → (A → outcome.Answer) → Result A Refusal → outcome.Answer
+answer_by f (Ok a) = f a
+answer_by f (Err r) = outcome.refused (refusal_of r)
 
-unfoldable pub flush_answer : Flushed → outcome.Answer
-flush_answer (flushed.Done p n) = outcome.flushed p n
-flush_answer (flushed.Refused r) = outcome.refused (refusal_of r)
+abbrev pub format_answer : Result ⊤ Refusal → outcome.Answer
+format_answer a = answer_by (λ _. outcome.formatted) a
 
-unfoldable pub lookup_answer : Lookup → outcome.Answer
-lookup_answer (lookup.Found f) = outcome.found f.page f.predicted f.levels
-lookup_answer (lookup.NotWritten n) = outcome.not_written n
-lookup_answer (lookup.Refused r) = outcome.refused (refusal_of r)
+abbrev pub flush_answer : Result Flushed Refusal → outcome.Answer
+flush_answer a = answer_by (λ f. outcome.flushed f.first f.count) a
+
+unfoldable pub found_or_not : Looked → outcome.Answer
+found_or_not (Found f) = outcome.found f.page f.predicted f.levels
+found_or_not (NotWritten n) = outcome.not_written n
+
+abbrev pub lookup_answer : Result Looked Refusal → outcome.Answer
+lookup_answer a = answer_by found_or_not a
 
 -- what a lookup in a sound group came to: refused there is 7
-unfoldable pub as_looked : Lookup → looked.Looked
-as_looked (lookup.Found f) = looked.at f.page f.predicted f.levels
-as_looked (lookup.NotWritten n) = looked.nowhere n
-as_looked (lookup.Refused r) = looked.unnamed
+unfoldable pub as_looked : Result Looked Refusal → looked.Looked
+as_looked (Ok (Found f)) = looked.at f.page f.predicted f.levels
+as_looked (Ok (NotWritten n)) = looked.nowhere n
+as_looked (Err r) = looked.unnamed
 
 -- the plain engine's: the page found stands for both pages of the learned engine's answer, with 0 levels
-unfoldable pub plain_lookup_answer : PlainLookup → outcome.Answer
-plain_lookup_answer (plain.Found p) = outcome.found p p 0
-plain_lookup_answer plain.NotWritten = outcome.not_written 0
-plain_lookup_answer (plain.Refused r) = outcome.refused (refusal_of r)
+unfoldable pub plainly_found : Option ℕ → outcome.Answer
+plainly_found (Some p) = outcome.found p p 0
+plainly_found None = outcome.not_written 0
 
-unfoldable pub discard_answer : Discarded → outcome.Answer
-discard_answer discarded.Done = outcome.discarded
-discard_answer (discarded.Refused r) = outcome.refused (refusal_of r)
+abbrev pub plain_lookup_answer : Result (Option ℕ) Refusal → outcome.Answer
+plain_lookup_answer a = answer_by plainly_found a
 
-unfoldable pub collect_answer : Collected → outcome.Answer
-collect_answer (collected.Done p n e) = outcome.collected p n e
-collect_answer (collected.Refused r) = outcome.refused (refusal_of r)
+abbrev pub discard_answer : Result ⊤ Refusal → outcome.Answer
+discard_answer a = answer_by (λ _. outcome.discarded) a
 
-unfoldable pub compact_answer : Compacted → outcome.Answer
-compact_answer (compacted.Done n) = outcome.compacted n
-compact_answer (compacted.Refused r) = outcome.refused (refusal_of r)
+abbrev pub collect_answer : Result Collected Refusal → outcome.Answer
+collect_answer a = answer_by (λ c. outcome.collected c.first c.count c.erased) a
 
-unfoldable pub agree_answer : Agreed → outcome.Answer
-agree_answer agreed.Yes = outcome.agreed true
-agree_answer agreed.No = outcome.agreed false
-agree_answer (agreed.Refused r) = outcome.refused (refusal_of r)
+abbrev pub compact_answer : Result ℕ Refusal → outcome.Answer
+compact_answer a = answer_by (λ n. outcome.compacted n) a
 
-unfoldable pub list_answer : Listed → outcome.Answer
-list_answer (listed.Done n) = outcome.listed n
-list_answer (listed.Refused r) = outcome.refused (refusal_of r)
+abbrev pub agree_answer : Result Bool Refusal → outcome.Answer
+agree_answer a = answer_by (λ b. outcome.agreed b) a
 
-unfoldable pub why_answer : Explained → outcome.Answer
-why_answer (explained.Done n) = outcome.explained n
-why_answer (explained.Refused r) = outcome.refused (refusal_of r)
+abbrev pub list_answer : Result ℕ Refusal → outcome.Answer
+list_answer a = answer_by (λ n. outcome.listed n) a
+
+abbrev pub why_answer : Result ℕ Refusal → outcome.Answer
+why_answer a = answer_by (λ n. outcome.explained n) a

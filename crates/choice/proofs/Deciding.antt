@@ -5,6 +5,7 @@ use mathlib.Core.List.{List, [], ◌∷◌, map}
 use mathlib.Core.Option.{Option, none, some}
 use mathlib.Core.Bool.{true, false, not, ◌&&◌}
 use Prim.Native.Nat.{ℕ}
+use Rattle.std.specs.Prelude.{Result, Ok, Err}
 use native.Mathlib.Omega.{arith}
 use lib.Dec.{eqb}
 use lib.ListN.{length}
@@ -18,8 +19,8 @@ use Rattle.calls.specs.Refusals.{Refusal, no_free_block, nothing_to_gain, first_
 use Rattle.calls.specs.Choice.{Used, blocks_of, pages_of, no_gain, copy_by, moves_by}
 use Rattle.calls.proofs.Refusing.{refuses_at, is_clear}
 use Rattle.choice.specs.Taking.{gain_checks, takes, refuses, choice_by, choice, choice_of, listed_by, listed}
-use Rattle.choice.specs.declared.taking.Taken.{Taken}
-use Rattle.choice.specs.declared.taking.Taken.TheVariants as taken
+use Rattle.answers.specs.declared.Refusal as code
+use Rattle.answers.specs.Answers.{refusal_of}
 
 -- a list is empty if 0 is its length
 counted-empty : {A : Type 0} (l : List A) (n : ℕ) → n ≡ length l → eqb n 0 ≡ is_empty l
@@ -38,14 +39,6 @@ moves-empty name us = go (pages_of us)
     go : (ps : List ℕ) → is_empty (sort (map (copy_by name) ps)) ≡ is_empty ps
     go [] = refl
     go (p ∷ ps) = filled (copy_by name p) (map (copy_by name) ps)
-
--- Whether n pages need a block and none is free, by whether there are any.
-module _ (n free : ℕ) where
-  pub block_unneeded : n ≡ 0 → false ≡ (not (eqb n 0) && eqb free 0)
-  block_unneeded z = rw (eq-eqb n 0 z)
-
-  pub block_needed : (n ≡ 0 → ⊥) → eqb free 0 ≡ (not (eqb n 0) && eqb free 0)
-  block_needed h = rw (ne_eqb n 0 h)
 
 module _ (us : List Used) (counts : List ℕ) where
   -- 8: there is nothing to gain.
@@ -75,7 +68,7 @@ module _ (us : List Used) (counts : List ℕ) where
   says-taken e c n erased erased' l = (rw (e, n), rw (e, l))
 
   -- .. and this is what it says.
-  module _ (t : Taken) (h : choice_of t ≡ choice us counts) (erased erased' : List ℕ) (l : erased' ≡ listed us counts erased) where
+  module _ (t : Result ℕ code.Refusal) (h : choice_of t ≡ choice us counts) (erased erased' : List ℕ) (l : erased' ≡ listed us counts erased) where
     refused_as : (r : Refusal) → choice_of t ≡ refuses r → (first_refusal (gain_checks us counts) ≡ some r) × (erased' ≡ erased)
     unfolding choice_by listed_by
     refused_as r e = go (first_refusal (gain_checks us counts)) (sym e ∙ h) l
@@ -84,15 +77,11 @@ module _ (us : List Used) (counts : List ℕ) where
         go none q m = let z : ◌≡◌ {A = ℕ} 0 1 = cc in absurd (omega arith)
         go (some p) q m = (cc, m)
 
-    pub nothing_then : t ≡ taken.NothingToGain → (first_refusal (gain_checks us counts) ≡ some nothing_to_gain) × (erased' ≡ erased)
+    pub refused_then : (r : code.Refusal) → t ≡ Err r → (first_refusal (gain_checks us counts) ≡ some (refusal_of r)) × (erased' ≡ erased)
     unfolding choice_of
-    nothing_then e = refused_as nothing_to_gain (ap choice_of e)
+    refused_then r e = refused_as (refusal_of r) (ap choice_of e)
 
-    pub full_then : t ≡ taken.NoFreeBlock → (first_refusal (gain_checks us counts) ≡ some no_free_block) × (erased' ≡ erased)
-    unfolding choice_of
-    full_then e = refused_as no_free_block (ap choice_of e)
-
-    pub taken_then : (c : ℕ) → t ≡ taken.Blocks c
+    pub taken_then : (c : ℕ) → t ≡ Ok c
         → (first_refusal (gain_checks us counts) ≡ none) × (c ≡ length us) × (erased' ≡ store erased 0 (blocks_of us))
     unfolding choice_of choice_by listed_by
     taken_then c e = go (first_refusal (gain_checks us counts)) (ap choice_of (sym e) ∙ h) l

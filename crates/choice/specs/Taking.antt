@@ -1,5 +1,5 @@
 -- Whether a collection takes its blocks: 8 and 6, in order, and what comes of them. Assumes nothing.
-use Rattle.std.specs.Prelude.{◌≡◌, List, [], ◌∷◌, not, ◌&&◌, ℕ, length}
+use Rattle.std.specs.Prelude.{◌≡◌, List, [], ◌∷◌, not, ◌&&◌, ℕ, length, Result, Ok, Err}
 use Rattle.std.proofs.Math.Option.{Option, none, some}
 use Rattle.model.specs.Lists.{store}
 use Rattle.model.specs.State.{free_blocks}
@@ -7,8 +7,8 @@ use Rattle.model.specs.Sound.{is_empty}
 use Rattle.calls.specs.Refusals.{Refusal, Check, ◌when◌, no_free_block, nothing_to_gain, first_refusal}
 use Rattle.calls.specs.Choice.{Used, blocks_of, pages_of, no_gain}
 use Rattle.choice.specs.Tally.{chosen, total}
-use Rattle.choice.specs.declared.taking.Taken.{Taken}
-use Rattle.choice.specs.declared.taking.Taken.TheVariants as taken
+use Rattle.answers.specs.declared.Refusal as code
+use Rattle.answers.specs.Answers.{refusal_of}
 
 -- the checks of a collection that come after counting, where it would take these blocks and these are the counts of all; there is
 -- something to move where they have valid pages
@@ -31,10 +31,9 @@ abbrev pub choice : List Used → List ℕ → Choice
 choice us counts = choice_by (first_refusal (gain_checks us counts)) (length us)
 
 -- as the code answers it
-unfoldable pub choice_of : Taken → Choice
-choice_of (taken.Blocks c) = takes c
-choice_of taken.NothingToGain = refuses nothing_to_gain
-choice_of taken.NoFreeBlock = refuses no_free_block
+unfoldable pub choice_of : Result ℕ code.Refusal → Choice
+choice_of (Ok c) = takes c
+choice_of (Err r) = refuses (refusal_of r)
 
 -- the list of erased blocks with the taken ones in front, or as it was where the collection is refused
 unfoldable pub listed_by : Option Refusal → List ℕ → List ℕ → List ℕ

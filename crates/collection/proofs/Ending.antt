@@ -2,24 +2,29 @@
 use mathlib.Core.Path.{◌≡◌, refl, sym, ap, ◌∙◌}
 use mathlib.Core.List.{List, [], ◌∷◌, ◌++◌}
 use mathlib.Core.Option.{none, some}
-use mathlib.Core.Bool.{true≢false, Bool, not, ◌&&◌}
-use Prim.Native.Nat.{ℕ}
-use lib.ListN.{length}
+use mathlib.Core.Bool.{true≢false, Bool, true, false, not, ◌&&◌}
+use Prim.Native.Nat.{ℕ, ◌≤◌}
+use native.Mathlib.Omega.{arith}
+use lib.ListN.{length, take}
 use borrow.Author.Tests.{not-false}
+use Rattle.model.specs.Lists.{store}
 use Rattle.model.specs.Device.{Device}
 use Rattle.model.specs.State.{State, free_blocks}
 use Rattle.model.specs.Sound.{is_empty, sound_state}
 use Rattle.calls.specs.Refusals.{Refusal, bad_length, not_sound, no_free_block, nothing_to_gain, Check, ◌when◌, first_refusal, wrong_length, opening_with}
 use Rattle.calls.specs.Outcome.{Lent, Answer, accepted, refused}
-use Rattle.calls.specs.Choice.{no_gain}
-use Rattle.calls.specs.Collection.{victims, admit_checks, collect_checks, collect_done}
+use Rattle.calls.specs.Choice.{blocks_of, no_gain}
+use Rattle.calls.specs.Collection.{valid, victims, admit_checks, collect_checks, collect_done}
 use Rattle.calls.specs.History.{collect_call, lend, lent_to, checks_of, effect}
-use Rattle.calls.proofs.Refusing.{front-refuses, others_decide, clears, is_clear, length_is}
+use Rattle.calls.proofs.Refusing.{front-refuses, others_decide, refuses_at, clears, is_clear, length_is, right-length, wrong_length_lem}
+use Rattle.sorting.proofs.SortStores.{front}
 use Rattle.choice.specs.Taking.{gain_checks}
+use Rattle.choice.proofs.Taken.{blocks-length, blocks-few}
 use Rattle.choice.proofs.Deciding.{moves-empty}
 use Rattle.state.specs.Reading.{read_state}
 use Rattle.state.specs.Shaped.{Passed}
 use Rattle.state.specs.Ran.{Slices, Ran}
+use Rattle.state.proofs.Shaping.{length-counts}
 use Rattle.state.proofs.Refusing.{ran-refused, ran-accepted, opened_with_lem}
 
 -- The checks behind the opening before any counting, by the device's own numbers.
@@ -33,10 +38,28 @@ module _ (state spare plan erased : List ℕ) where
   abbrev x : Lent
   x = lend s spare plan erased
 
-  -- They decide where the state is opened.
-  pub to_rest : (d : Device) → (first_refusal (opening_with s spare) ≡ none) × (s.device ≡ d) → first_refusal (admit_checks x) ≡ first_refusal (rest d s plan erased)
-  unfolding lend
-  to_rest d p = others_decide (opening_with s spare) _ p.0 ∙ ap (λ (e : Device). first_refusal (rest e s plan erased)) p.1
+  abbrev pub Refused : Refusal → Type 0
+  Refused r = first_refusal (admit_checks x) ≡ some r
+
+  -- They decide where the state is opened, by what was tested so far.
+  module _ (d : Device) (opened : (first_refusal (opening_with s spare) ≡ none) × (s.device ≡ d)) where
+    to_rest : first_refusal (admit_checks x) ≡ first_refusal (rest d s plan erased)
+    unfolding lend
+    to_rest = others_decide (opening_with s spare) _ opened.0 ∙ ap (λ (e : Device). first_refusal (rest e s plan erased)) opened.1
+
+    pub unplanned : (length plan ≡ d.B → ⊥) → Refused bad_length
+    unplanned h = to_rest ∙ refuses_at 0 _ refl tt (wrong_length_lem _ _ h)
+
+    module _ (planned : length plan ≡ d.B) where
+      pub unlisted : (length erased ≡ d.M → ⊥) → Refused bad_length
+      unlisted h = to_rest ∙ refuses_at 1 _ refl (right-length _ _ planned, tt) (wrong_length_lem _ _ h)
+
+      module _ (listed : length erased ≡ d.M) where
+        pub unsound : sound_state s ≡ false → Refused not_sound
+        unsound f = to_rest ∙ refuses_at 2 _ refl (right-length _ _ planned, (right-length _ _ listed, tt)) (ap not f)
+
+        pub admits : sound_state s ≡ true → first_refusal (admit_checks x) ≡ none
+        admits f = to_rest ∙ is_clear _ (right-length _ _ planned, (right-length _ _ listed, (ap not f, tt)))
 
   -- What a collection that none of them refuses has passed.
   pub admitted : (d : Device) → (first_refusal (admit_checks x) ≡ none) × (s.device ≡ d) → Passed d s spare × (length plan ≡ d.B) × (length erased ≡ d.M)
@@ -46,6 +69,19 @@ module _ (state spare plan erased : List ℕ) where
       let o = opened_with_lem s spare d (is_clear (opening_with s spare) (c.0, (c.1.0, (c.1.1.0, tt)))) p.1 in
       let r = c.1.1.1 in
       (record { shape = o.0; fits = o.1; sound = not-false _ r.1.1.0 }, rw p.1 at (length_is plan s.device.B r.0), rw p.1 at (length_is erased s.device.M r.1.0))
+
+  -- The taken blocks stand at the front of the list.
+  module _ (d : Device) (p : (first_refusal (admit_checks x) ≡ none) × (s.device ≡ d)) (c : ℕ) (erased' : List ℕ) (count : c ≡ length (victims s spare))
+      (listed : erased' ≡ store erased 0 (blocks_of (victims s spare))) where
+    pub listed-few : c ≤ length erased
+    listed-few =
+        let a = admitted d p in
+        omega (arith, count, blocks-length (victims s spare), blocks-few (valid s spare) s.device s.counts d.M (length-counts d state a.0.shape), a.2)
+
+    pub listed_front : take c erased' ≡ blocks_of (victims s spare)
+    listed_front =
+        let few = listed-few in
+        front _ _ _ _ listed (count ∙ sym (blocks-length _)) (omega (arith, few, count, blocks-length (victims s spare)))
 
   -- All checks: these, then 8 and 6.
   checks_are : collect_checks x ≡ admit_checks x ++ gain_checks (victims s spare) s.counts

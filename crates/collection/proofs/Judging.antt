@@ -1,14 +1,15 @@
 -- Whether a page is valid, by what its lookup gives; the pages of a block. Assumes nothing.
 use mathlib.Core.Path.{◌≡◌, refl, sym, ap, ◌∙◌}
-use mathlib.Core.List.{List}
-use mathlib.Core.Logic.{◌⊎◌, inl, inr}
-use mathlib.Core.Bool.{true, false, ◌&&◌}
-use Prim.Native.Nat.{ℕ, ◌+◌, ◌*◌, ◌≤◌, ◌<◌}
+use mathlib.Core.List.{List, [], ◌∷◌}
+use mathlib.Core.Bool.{Bool, true, false, ◌&&◌}
+use Prim.Native.Nat.{ℕ, suc, ◌+◌, ◌*◌, ◌-◌, ◌≤◌, ◌<◌}
 use native.Mathlib.Omega.{arith}
+use native.Mathlib.Numerals.{add-one}
 use lib.Dec.{ltb, eqb}
 use lib.ListN.{length}
-use denote.Enum.Declared.{tag_of}
+use mir.Val.{bool_byte}
 use borrow.Author.Tests.{lt-ltb, le-ltb}
+use Rattle.model.specs.Lists.{select}
 use Rattle.model.specs.Device.{Device, pages, first_page}
 use Rattle.model.specs.Spare.{middle}
 use Rattle.model.specs.State.{State, group_at}
@@ -16,24 +17,52 @@ use Rattle.model.specs.Sound.{sound_group, sound_state}
 use Rattle.model.proofs.Bools.{and_l}
 use Rattle.model.proofs.Limits.{limits, page-inside}
 use Rattle.model.proofs.SoundGroups.{group_sound}
-use Rattle.calls.specs.Lookup.{at, seek}
+use Rattle.calls.specs.Lookup.{Looked, at, seek}
 use Rattle.calls.specs.Choice.{used_by}
 use Rattle.calls.specs.Collection.{gives, valid, used_block}
 use Rattle.spare.proofs.Sizes.{page-small}
-use Rattle.answers.specs.Answers.{as_looked}
-use Rattle.answers.specs.declared.Lookup.{Lookup}
-use Rattle.answers.specs.declared.Lookup.TheVariants.{Found, NotWritten, Refused}
-use Rattle.answers.specs.contracts.Lookup.{the_type}
-use Rattle.choice.proofs.ValidPages.{valid-few, valid_from, valid_first}
+use Rattle.choice.proofs.ValidPages.{valid-few}
 use Rattle.state.specs.Shaped.{Passed}
 
--- a lookup that ends in another way than with a page gives none
-unfound : (p : ℕ) (t : Lookup) → (tag_of the_type t ≡ 1) ⊎ (tag_of the_type t ≡ 2) → gives p (as_looked t) ≡ false
-unfolding gives as_looked
-unfound p (Found f) (inl e) = let z : ◌≡◌ {A = ℕ} 0 1 = e in absurd (omega arith)
-unfound p (Found f) (inr e) = let z : ◌≡◌ {A = ℕ} 0 2 = e in absurd (omega arith)
-unfound p (NotWritten n) e = refl
-unfound p (Refused r) e = refl
+-- the valid pages from p on, before page e
+unfoldable pub valid_upto : State → List ℕ → ℕ → ℕ → List ℕ
+valid_upto s spare e p = select (valid s spare) (e - p) p
+
+module _ (s : State) (spare : List ℕ) (e p : ℕ) where
+  -- Behind the last page there is none.
+  pub upto-end : e ≤ p → valid_upto s spare e p ≡ []
+  unfolding valid_upto select
+  upto-end h =
+      let z : e - p ≡ 0 = omega arith in
+      ap (λ (n : ℕ). select (valid s spare) n p) z
+
+  module _ (h : p < e) (t : Bool) (q : t ≡ valid s spare p) where
+    here : valid_upto s spare e p ≡ select (valid s spare) (suc (e - (p + 1))) p
+    unfolding valid_upto
+    here =
+        let z : e - p ≡ suc (e - (p + 1)) = omega arith in
+        ap (λ (n : ℕ). select (valid s spare) n p) z
+
+    later : select (valid s spare) (e - (p + 1)) (suc p) ≡ valid_upto s spare e (p + 1)
+    unfolding valid_upto
+    later = ap (select (valid s spare) (e - (p + 1))) (sym (add-one p))
+
+    -- A page that is valid is the next of them; one that isn't is passed.
+    pub upto_next : t ≡ true → valid_upto s spare e p ≡ p ∷ valid_upto s spare e (p + 1)
+    unfolding select
+    upto_next f = here ∙ rw (sym q ∙ f, select) (ap (λ (l : List ℕ). p ∷ l) later)
+
+    pub upto-passed : t ≡ false → valid_upto s spare e p ≡ valid_upto s spare e (p + 1)
+    unfolding select
+    upto-passed f = here ∙ rw (sym q ∙ f, select) later
+
+    -- Either way the page counts as its test says, 1 or 0.
+    pub upto-count : length (valid_upto s spare e p) ≡ bool_byte t + length (valid_upto s spare e (p + 1))
+    upto-count = go t refl
+      where
+        go : (b : Bool) → t ≡ b → length (valid_upto s spare e p) ≡ bool_byte b + length (valid_upto s spare e (p + 1))
+        go true f = omega (arith, ap length (upto_next f))
+        go false f = omega (arith, ap length (upto-passed f))
 
 module _ (d : Device) (s : State) (spare : List ℕ) (v : Passed d s spare) where
   -- Every group of a sound state is sound.
@@ -54,8 +83,8 @@ module _ (d : Device) (s : State) (spare : List ℕ) (v : Passed d s spare) wher
     too_high h = sym (valid_is ∙ rw (le-ltb x d.N h))
 
     -- .. or where lookup of x gives no page ..
-    pub not_given : x < d.N → (t : Lookup) → as_looked t ≡ seek s spare x → (tag_of the_type t ≡ 1) ⊎ (tag_of the_type t ≡ 2) → false ≡ valid s spare p
-    not_given h t q m = sym (valid_is ∙ rw (lt-ltb x d.N h) (ap (gives p) (sym q) ∙ unfound p t m))
+    pub not_given : x < d.N → (a : Looked) → a ≡ seek s spare x → gives p a ≡ false → false ≡ valid s spare p
+    not_given h a q f = sym (valid_is ∙ rw (lt-ltb x d.N h) (ap (gives p) (sym q) ∙ f))
 
     -- .. and else if the page given is p.
     pub given_is : x < d.N → (q a n : ℕ) → at q a n ≡ seek s spare x → eqb p q ≡ valid s spare p
@@ -63,21 +92,24 @@ module _ (d : Device) (s : State) (spare : List ℕ) (v : Passed d s spare) wher
     given_is h q a n f = sym (valid_is ∙ rw (lt-ltb x d.N h, ← f))
 
   -- A block's pages are pages of the device, and small numbers.
-  pub in_device : (k i : ℕ) → k < d.M → i < d.B → k * d.B + i < pages d
-  unfolding first_page
-  in_device k i h l = page-inside d k i h l
+  module _ (k : ℕ) (h : k < d.M) where
+    pub block-fits : k * d.B + d.B ≤ 1048576
+    block-fits =
+        let last = limits d v.shape.limits in
+        omega (arith, page-small d k (d.B - 1) v.shape.limits h (omega (arith, last.least_B)), last.least_B)
 
-  pub page-fits : (k i : ℕ) → k < d.M → i < d.B → k * d.B + i < 1048576
-  page-fits k i h l = page-small d k i v.shape.limits h l
-
-  pub block-fits : (k : ℕ) → k < d.M → k * d.B < 1048576
-  block-fits k h = omega (arith, page-fits k 0 h (omega (arith, (limits d v.shape.limits).least_B)))
+    pub in_device : (p : ℕ) → k * d.B ≤ p → p < k * d.B + d.B → p < pages d
+    unfolding first_page
+    in_device p a e = omega (arith, page-inside d k (p - k * d.B) h (omega arith))
 
   -- A block has few valid pages.
   pub pages-few : (k : ℕ) → length (used_block s spare k).pages ≤ 256
   pages-few k =
       omega (arith, valid-few (valid s spare) s.device k, ap (λ (e : Device). e.B) v.shape.numbers, (limits d v.shape.limits).most_B)
 
-  -- From its first page on, by the numbers of the device, they are all.
-  pub pages_first : (k : ℕ) → valid_from (valid s spare) d k 0 ≡ (used_block s spare k).pages
-  pages_first k = valid_first (valid s spare) d k ∙ ap (λ (e : Device). (used_by (valid s spare) e k).pages) (sym v.shape.numbers)
+  -- They are those among its pages, by the numbers of the device.
+  pub pages_all : (k : ℕ) → valid_upto s spare (k * d.B + d.B) (k * d.B) ≡ (used_block s spare k).pages
+  unfolding valid_upto used_by first_page
+  pages_all k =
+      let n : (k * d.B + d.B) - k * d.B ≡ d.B = omega arith in
+      ap (λ (m : ℕ). select (valid s spare) m (k * d.B)) n ∙ ap (λ (e : Device). (used_by (valid s spare) e k).pages) (sym v.shape.numbers)

@@ -88,6 +88,12 @@ module _ (d : Device) (s : State) (spare : List ℕ) (v : Passed d s spare) wher
   pub moves-few : length (moves s spare) ≤ 256
   moves-few = omega (arith, moves_most s spare, room, (limits d v.shape.limits).most_B)
 
+  -- Stored at the front of a list that holds them, they are its front.
+  pub moves_front : (z t : List ℕ) (n : ℕ) → t ≡ store z 0 (logicals (moves s spare)) → n ≡ length (moves s spare) → 256 ≤ length z → take n t ≡ logicals (moves s spare)
+  moves_front z t n e count room =
+      let size = logicals-length (moves s spare) in
+      front z t _ n e (count ∙ sym size) (omega (arith, size, moves-few))
+
   -- The gathered pages, at the front of two lists, are ready to be sorted; sorted they are the moves.
   module _ (bs b b' f f' : List ℕ) (n : ℕ) (is : bs ≡ blocks_of (victims s spare)) (count : n ≡ length (gathered s spare bs))
       (named : b' ≡ store b 0 (map (middle d spare) (gathered s spare bs))) (from : f' ≡ store f 0 (gathered s spare bs))
@@ -105,7 +111,7 @@ module _ (d : Device) (s : State) (spare : List ℕ) (v : Passed d s spare) wher
     front_from : take n f' ≡ taken
     front_from = front f f' _ n from count (omega (arith, gathered-few bs is)) ∙ gathered_is bs is
 
-    pub front_lengths : (length (take n b') ≡ n) × (length (take n f') ≡ n)
+    front_lengths : (length (take n b') ≡ n) × (length (take n f') ≡ n)
     front_lengths =
         let size = count ∙ ap length (gathered_is bs is) in
         (ap length front-names ∙ length-map taken (middle s.device spare) ∙ sym size, ap length front_from ∙ sym size)

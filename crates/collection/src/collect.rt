@@ -16,8 +16,8 @@ ghost use Rattle.state.specs.Ran.{Ran};
 use crate::erasing::erase_blocks;
 use crate::moving::moves;
 use crate::validity::tally_all;
-use answers::{Collected, Opened, Refusal};
-use choice::taking::{Taken, take_blocks};
+use answers::{Collected, Refusal};
+use choice::taking::take_blocks;
 use front::Numbers;
 use front::counts::{free_count, lowest_free};
 use state::groups::sound;
@@ -25,29 +25,25 @@ use state::opening::open_with_spare;
 use writing::block::write_block;
 
 // The device numbers where document 01's 1, 2 and 3 don't apply, else the refusal.
-fn check(state: &[u8], spare: &[u32], plan: &[u32], erased: &[u32]) -> Opened
+fn check(state: &[u8], spare: &[u32], plan: &[u32], erased: &[u32]) -> Result<Numbers, Refusal>
     ensures { verdict_of result ≡ verdict (admit_checks (lend (read_state state.now) spare.now plan.now erased.now))
         (read_state state.now).device }
 {
-    let opened = open_with_spare(state, spare);
-    let d = match opened {
-        Opened::Device(d) => d,
-        Opened::Refused(r) => return Opened::Refused(r),
-    };
+    let d = open_with_spare(state, spare)?;
     if plan.len() != d.b as usize {
-        return Opened::Refused(Refusal::BadLength);
+        return Err(Refusal::BadLength);
     }
     if erased.len() != d.m as usize {
-        return Opened::Refused(Refusal::BadLength);
+        return Err(Refusal::BadLength);
     }
     if !sound(state, d) {
-        return Opened::Refused(Refusal::NotSound);
+        return Err(Refusal::NotSound);
     }
-    Opened::Device(d)
+    Ok(d)
 }
 
 // Where 8 or 6 applies, that; else the taken blocks are listed at the front of `erased`. The tally is needed here only.
-fn take(state: &[u8], spare: &[u32], d: Numbers, erased: &mut [u32]) -> Taken
+fn take(state: &[u8], spare: &[u32], d: Numbers, erased: &mut [u32]) -> Result<usize, Refusal>
     requires { Passed (numbers_of d) (read_state state.now) spare.now × (length erased.old ≡ d.m) }
     ensures { (choice_of result ≡ choice (victims (read_state state.now) spare.now) (read_state state.now).counts)
         × (erased.new ≡ listed (victims (read_state state.now) spare.now) (read_state state.now).counts
@@ -69,7 +65,7 @@ fn write_moves(state: &mut [u8], spare: &mut [u32], d: Numbers, pages: &[u32]) -
         (store plan 0 (sources_of (moves_of (read_state state.old) spare.old))) erased
         ≡ move_all (moves_of (read_state state.old) spare.old) (lend (read_state state.old) spare.old plan erased) }
 {
-    if pages.len() == 0 {
+    if pages.is_empty() {
         return 0;
     }
     let k = lowest_free(state, d);
@@ -87,7 +83,7 @@ fn carry_out(
 ) -> Collected
     requires { Passed (numbers_of d) (read_state state.old) spare.old × (length plan.old ≡ d.b)
         × (blocks.now ≡ blocks_of (victims (read_state state.old) spare.old)) }
-    ensures answer { (erased : List ℕ) → collect_answer result
+    ensures answer { (erased : List ℕ) → collect_answer (Ok result)
         ≡ (collect_done (lend (read_state state.old) spare.old plan.old erased)).answer }
     ensures left { (erased : List ℕ) → lend (read_state state.new) spare.new plan.new (store erased 0 blocks.now)
         ≡ (collect_done (lend (read_state state.old) spare.old plan.old erased)).after }
@@ -96,7 +92,11 @@ fn carry_out(
     let n = moves(state, spare, d, blocks, &mut pages, plan);
     let first = write_moves(state, spare, d, &pages[..n]);
     erase_blocks(state, spare, d, blocks);
-    Collected::Done(first, n as u32, blocks.len() as u32)
+    Collected {
+        first,
+        count: n as u32,
+        erased: blocks.len() as u32,
+    }
 }
 
 // Document 01's collection.
@@ -105,20 +105,11 @@ pub fn collect(
     spare: &mut [u32],
     plan: &mut [u32],
     erased: &mut [u32],
-) -> Collected
+) -> Result<Collected, Refusal>
     ensures { Ran (collect_call plan.old erased.old) state.old spare.old (collect_answer result)
         (record { state = state.new; spare = spare.new; plan = plan.new; erased = erased.new; out = [] }) }
 {
-    let checked = check(state, spare, plan, erased);
-    let d = match checked {
-        Opened::Device(d) => d,
-        Opened::Refused(r) => return Collected::Refused(r),
-    };
-    let taken = take(state, spare, d, erased);
-    let c = match taken {
-        Taken::Blocks(c) => c,
-        Taken::NothingToGain => return Collected::Refused(Refusal::NothingToGain),
-        Taken::NoFreeBlock => return Collected::Refused(Refusal::NoFreeBlock),
-    };
-    carry_out(state, spare, plan, d, &erased[..c])
+    let d = check(state, spare, plan, erased)?;
+    let c = take(state, spare, d, erased)?;
+    Ok(carry_out(state, spare, plan, d, &erased[..c]))
 }

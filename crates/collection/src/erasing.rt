@@ -28,9 +28,7 @@ pub fn erase_blocks(state: &mut [u8], spare: &mut [u32], d: Numbers, blocks: &[u
     ensures { (plan erased : List ℕ) → lend (read_state state.new) spare.new plan erased
         ≡ erase_blocks blocks.now (lend (read_state state.old) spare.old plan erased) }
 {
-    let mut i = 0;
-    while i < blocks.len() {
-        erase_block(state, spare, d, blocks[i]);
-        i += 1;
+    for &k in blocks {
+        erase_block(state, spare, d, k);
     }
 }

@@ -31,19 +31,14 @@ fn gather_block(
         (map (middle (numbers_of d) spare.now) (used_block (read_state state.now) spare.now k).pages) }
     ensures source { sources.new ≡ store sources.old n (used_block (read_state state.now) spare.now k).pages }
 {
-    let b = d.b;
-    let a = k * b;
+    let a = k * d.b;
     let mut n = n;
-    let mut i = 0;
-    while i < b {
-        if valid(state, spare, d, a + i) {
-            pages[n] = spare::middle(spare, d, a + i);
-            sources[n] = a + i;
+    for p in a..a + d.b {
+        if valid(state, spare, d, p) {
+            pages[n] = spare::middle(spare, d, p);
+            sources[n] = p;
             n += 1;
-            i += 1;
-            continue;
         }
-        i += 1;
     }
     n
 }
@@ -67,10 +62,8 @@ fn gather(
         (pages_of (map (used_block (read_state state.now) spare.now) blocks.now)) }
 {
     let mut n = 0;
-    let mut i = 0;
-    while i < blocks.len() {
-        n = gather_block(state, spare, d, blocks[i], pages, sources, n);
-        i += 1;
+    for &k in blocks {
+        n = gather_block(state, spare, d, k, pages, sources, n);
     }
     n
 }

@@ -8,7 +8,7 @@ ghost use Rattle.state.specs.Reading.{read_state};
 ghost use Rattle.state.specs.Shaped.{count_of, Passed};
 ghost use Rattle.collection.specs.Tally.{tally_at, tally_of};
 
-use answers::Lookup;
+use answers::Looked;
 use choice::choose::FREE;
 use front::Numbers;
 use front::counts::count;
@@ -23,7 +23,10 @@ pub fn valid(state: &[u8], spare: &[u32], d: Numbers, p: u32) -> bool
     if d.n <= x {
         return false;
     }
-    let Lookup::Found(f) = seek(state, spare, d, x) else {
+    let Ok(looked) = seek(state, spare, d, x) else {
+        return false;
+    };
+    let Looked::Found(f) = looked else {
         return false;
     };
     p == f.page
@@ -34,30 +37,25 @@ fn valid_pages(state: &[u8], spare: &[u32], d: Numbers, k: u32) -> u32
     requires { Passed (numbers_of d) (read_state state.now) spare.now × (k < d.m) }
     ensures { result ≡ length (used_block (read_state state.now) spare.now k).pages }
 {
-    let b = d.b;
-    let a = k * b;
+    let a = k * d.b;
     let mut n = 0;
-    let mut i = 0;
-    while i < b {
-        if valid(state, spare, d, a + i) {
-            n += 1;
-            i += 1;
-            continue;
-        }
-        i += 1;
+    for p in a..a + d.b {
+        n += u32::from(valid(state, spare, d, p));
     }
     n
 }
 
 // Block k's entry in the tally.
+// Kept: FREE and no Option: what may not change is `tally_at`, in which a free block's entry is the number 257.
 fn tally_block(state: &[u8], spare: &[u32], d: Numbers, k: u32) -> u16
     requires { Passed (numbers_of d) (read_state state.now) spare.now × (k < d.m) }
     ensures { result ≡ tally_at (read_state state.now) spare.now k (count_of (read_state state.now) k) }
 {
     if count(state, d, k) == 0 {
-        return FREE;
+        FREE
+    } else {
+        valid_pages(state, spare, d, k) as u16
     }
-    valid_pages(state, spare, d, k) as u16
 }
 
 // The tally of all blocks.
@@ -65,10 +63,7 @@ pub fn tally_all(state: &[u8], spare: &[u32], d: Numbers, tally: &mut [u16])
     requires { Passed (numbers_of d) (read_state state.now) spare.now × (d.m ≤ length tally.old) }
     ensures { tally.new ≡ store tally.old 0 (tally_of (read_state state.now) spare.now) }
 {
-    let m = d.m;
-    let mut k = 0;
-    while k < m {
+    for k in 0..d.m {
         tally[k as usize] = tally_block(state, spare, d, k);
-        k += 1;
     }
 }

@@ -112,10 +112,8 @@ module _ {b : List ℕ} (ok : Compactable b) {m : ℕ} (used : m ≡ length (slo
       let same : g ≡ compact g = sym (compact-level g few (sound-levels ok.N ok.number g ok.sound) parts.filled records-sound) in
       (ok.size, same, count_is ∙ ap record_count same)
 
-  pub none_left : m ≡ 0 → (length b ≡ group_length) × (g ≡ compact g) × (0 ≡ record_count (compact g))
-  none_left none =
-      let is = one_level (omega (arith, levels-few g parts.filled, count_is, length-flat g)) in
-      (is.0, is.1, sym none ∙ is.2)
+  pub none_left : m ≡ 0 → (length b ≡ group_length) × (g ≡ compact g) × (m ≡ record_count (compact g))
+  none_left none = one_level (omega (arith, levels-few g parts.filled, count_is, length-flat g))
 
   pub top_only : (m ≡ 0 → ⊥) → (k : ℕ) → k ≡ (get_or (slots_of b) (m - 1) no_slot).level → k ≡ 0 → (length b ≡ group_length) × (g ≡ compact g) × (m ≡ record_count (compact g))
   top_only some k is none =

@@ -1,3 +1,3 @@
 pub mod Lengths
 pub mod Unpacking
-pub mod PageAlone
+pub mod Answered

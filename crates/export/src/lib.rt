@@ -15,12 +15,12 @@ ghost use Rattle.export.specs.Packing.{Packs, PlainPacks, state_len, spare_len, 
 
 use collection::collect::collect;
 use flush::flush;
-use front::Numbers;
-use front::device::within_limits;
+use front::Head;
 use lookup::agree::agree;
 use lookup::list::list;
 use lookup::lookup::lookup;
 use lookup::why::why;
+use pack::packed;
 use plainstate::places::table_len;
 use state::numbers::state_len;
 use upkeep::compact::compact;
@@ -28,15 +28,16 @@ use upkeep::discard::discard;
 use upkeep::format::format;
 
 // The length of the state, in bytes; 0 where the numbers are outside their limits.
+// Kept: the C interface: 0 and no Option, and a name for each of the three lengths.
 #[unsafe(no_mangle)]
 pub extern "C" fn hedjosur_state_len(m: u32, b: u32, n: u32, g: u32) -> u64
     ensures { result ≡ state_len (record { M = m; B = b; N = n; g = g }) }
 {
-    let d = Numbers { m, b, n, g };
-    if !within_limits(d) {
-        return 0;
+    let h = Head { m, b, n, g };
+    match h.checked() {
+        Some(d) => state_len(d) as u64,
+        None => 0,
     }
-    state_len(d) as u64
 }
 
 // The length of the spare area, in entries; likewise.
@@ -44,11 +45,11 @@ pub extern "C" fn hedjosur_state_len(m: u32, b: u32, n: u32, g: u32) -> u64
 pub extern "C" fn hedjosur_spare_len(m: u32, b: u32, n: u32, g: u32) -> u64
     ensures { result ≡ spare_len (record { M = m; B = b; N = n; g = g }) }
 {
-    let d = Numbers { m, b, n, g };
-    if !within_limits(d) {
-        return 0;
+    let h = Head { m, b, n, g };
+    match h.checked() {
+        Some(d) => spare::spare_len(d) as u64,
+        None => 0,
     }
-    spare::spare_len(d) as u64
 }
 
 // Document 01's format: 0.
@@ -64,7 +65,7 @@ pub extern "C" fn hedjosur_format(
     ensures { Packs (format_call (record { M = m; B = b; N = n; g = g }))
         state.old spare.old result (device_slices state.new spare.new) }
 {
-    pack::format(format(m, b, n, g, state, spare))
+    packed(format(m, b, n, g, state, spare), |()| 0)
 }
 
 // Document 01's flush: count × 2^20 + first page.
@@ -78,7 +79,7 @@ pub extern "C" fn hedjosur_flush(
     ensures { Packs (flush_call batch.now plan.old) state.old spare.old result
         (record { state = state.new; spare = spare.new; plan = plan.new; erased = []; out = [] }) }
 {
-    pack::flush(flush(state, spare, batch, plan))
+    packed(flush(state, spare, batch, plan), pack::flushed)
 }
 
 // Document 01's lookup: found × 2^56 + levels × 2^40 + predicted page × 2^20 + page.
@@ -87,7 +88,7 @@ pub extern "C" fn hedjosur_lookup(state: &[u8], spare: &[u32], page: u32) -> u64
     ensures { Packs (lookup_call page) state.now spare.now result
         (device_slices state.now spare.now) }
 {
-    pack::lookup(lookup(state, spare, page))
+    packed(lookup(state, spare, page), pack::looked)
 }
 
 // Document 02's discard: 0.
@@ -96,7 +97,7 @@ pub extern "C" fn hedjosur_discard(state: &mut [u8], spare: &[u32], page: u32) -
     ensures { Packs (discard_call page) state.old spare.now result
         (device_slices state.new spare.now) }
 {
-    pack::discard(discard(state, spare, page))
+    packed(discard(state, spare, page), |()| 0)
 }
 
 // Document 01's collection: blocks erased × 2^40 + count × 2^20 + first page.
@@ -110,7 +111,7 @@ pub extern "C" fn hedjosur_collect(
     ensures { Packs (collect_call plan.old erased.old) state.old spare.old result
         (record { state = state.new; spare = spare.new; plan = plan.new; erased = erased.new; out = [] }) }
 {
-    pack::collect(collect(state, spare, plan, erased))
+    packed(collect(state, spare, plan, erased), pack::collected)
 }
 
 // Document 01's compaction: the records left. Each byte outside the group's part stays.
@@ -119,7 +120,7 @@ pub extern "C" fn hedjosur_compact(state: &mut [u8], group: u32) -> u64
     ensures packs { (spare : List ℕ) → Packs (compact_call group) state.old spare result (device_slices state.new spare) }
     ensures outside { SameOutside (numbers_at state.old) group state.old state.new }
 {
-    pack::compact(compact(state, group))
+    packed(compact(state, group), |n| u64::from(n))
 }
 
 // Document 01's agreement, with what document 02 also wants: 1 yes, 0 no.
@@ -133,7 +134,10 @@ pub extern "C" fn hedjosur_agree(
     ensures { (state spare : List ℕ) → Packs (agree_call (read_state state_a.now) spare_a.now (read_state state_b.now) spare_b.now)
         state spare result (device_slices state spare) }
 {
-    pack::agree(agree(state_a, spare_a, state_b, spare_b))
+    packed(
+        agree(state_a, spare_a, state_b, spare_b),
+        |same| u64::from(same),
+    )
 }
 
 // Lists a group, ten bytes a record at the start of `out`: the records.
@@ -142,7 +146,7 @@ pub extern "C" fn hedjosur_list(state: &[u8], group: u32, out: &mut [u8]) -> u64
     ensures { (spare : List ℕ) → Packs (list_call group out.old) state.now spare result
         (listing_slices state.now spare out.new) }
 {
-    pack::list(list(state, group, out))
+    packed(list(state, group, out), |n| u64::from(n))
 }
 
 // Document 02's telling of why, twelve bytes an entry at the start of `out`: the entries.
@@ -151,7 +155,7 @@ pub extern "C" fn hedjosur_why(state: &[u8], page: u32, out: &mut [u8]) -> u64
     ensures { (spare : List ℕ) → Packs (why_call page out.old) state.now spare result
         (listing_slices state.now spare out.new) }
 {
-    pack::why(why(state, page, out))
+    packed(why(state, page, out), |n| u64::from(n))
 }
 
 // The plain engine: the length of its state, in bytes; 0 where the numbers are outside their limits.
@@ -159,11 +163,11 @@ pub extern "C" fn hedjosur_why(state: &[u8], page: u32, out: &mut [u8]) -> u64
 pub extern "C" fn hedjosur_plain_state_len(m: u32, b: u32, n: u32, g: u32) -> u64
     ensures { result ≡ plain_state_len (record { M = m; B = b; N = n; g = g }) }
 {
-    let d = Numbers { m, b, n, g };
-    if !within_limits(d) {
-        return 0;
+    let h = Head { m, b, n, g };
+    match h.checked() {
+        Some(d) => table_len(d) as u64,
+        None => 0,
     }
-    table_len(d) as u64
 }
 
 // Its format: 0.
@@ -171,7 +175,7 @@ pub extern "C" fn hedjosur_plain_state_len(m: u32, b: u32, n: u32, g: u32) -> u6
 pub extern "C" fn hedjosur_plain_format(m: u32, b: u32, n: u32, g: u32, state: &mut [u8]) -> u64
     ensures { PlainPacks (plain.format (record { M = m; B = b; N = n; g = g })) state.old result (state_slices state.new) }
 {
-    pack::format(plaincalls::format::format(m, b, n, g, state))
+    packed(plaincalls::format::format(m, b, n, g, state), |()| 0)
 }
 
 // Its flush: count × 2^20 + first page.
@@ -180,7 +184,7 @@ pub extern "C" fn hedjosur_plain_flush(state: &mut [u8], batch: &[u32], plan: &m
     ensures { PlainPacks (plain.flush batch.now plan.old) state.old result
         (record { state = state.new; plan = plan.new; erased = [] }) }
 {
-    pack::flush(plaincalls::flush::flush(state, batch, plan))
+    packed(plaincalls::flush::flush(state, batch, plan), pack::flushed)
 }
 
 // Its lookup: found × 2^56 + page.
@@ -188,7 +192,7 @@ pub extern "C" fn hedjosur_plain_flush(state: &mut [u8], batch: &[u32], plan: &m
 pub extern "C" fn hedjosur_plain_lookup(state: &[u8], page: u32) -> u64
     ensures { PlainPacks (plain.lookup page) state.now result (state_slices state.now) }
 {
-    pack::plain_lookup(plaincalls::lookup::lookup(state, page))
+    packed(plaincalls::lookup::lookup(state, page), pack::page)
 }
 
 // Its discard: 0.
@@ -196,7 +200,7 @@ pub extern "C" fn hedjosur_plain_lookup(state: &[u8], page: u32) -> u64
 pub extern "C" fn hedjosur_plain_discard(state: &mut [u8], page: u32) -> u64
     ensures { PlainPacks (plain.discard page) state.old result (state_slices state.new) }
 {
-    pack::discard(plaincalls::discard::discard(state, page))
+    packed(plaincalls::discard::discard(state, page), |()| 0)
 }
 
 // Its collection: blocks erased × 2^40 + count × 2^20 + first page.
@@ -209,5 +213,8 @@ pub extern "C" fn hedjosur_plain_collect(
     ensures { PlainPacks (plain.collect plan.old erased.old) state.old result
         (record { state = state.new; plan = plan.new; erased = erased.new }) }
 {
-    pack::collect(plaincalls::collect::collect(state, plan, erased))
+    packed(
+        plaincalls::collect::collect(state, plan, erased),
+        pack::collected,
+    )
 }

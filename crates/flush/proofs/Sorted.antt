@@ -12,6 +12,7 @@ use Rattle.model.specs.Spare.{program_block}
 use Rattle.model.specs.Learning.{Write, sorted, logicals, sources}
 use Rattle.model.specs.State.{State}
 use Rattle.model.proofs.Lists.{of_asc}
+use Rattle.model.proofs.Limits.{limits}
 use Rattle.model.proofs.Sorting.{sorted_asc, logicals-length, sorted-length}
 use Rattle.calls.specs.Flush.{write_state}
 use Rattle.sorting.proofs.Batches.{sorted-below}
@@ -20,6 +21,10 @@ use Rattle.flush.specs.Written.{Admitted, Written}
 -- The sorted batch ascends.
 sorted-ascends : (batch : List ℕ) → ascending (logicals (sorted batch)) ≡ true
 sorted-ascends batch = of_asc (logicals (sorted batch)) (sorted_asc batch)
+
+-- It fits an array for a block's pages.
+pub sorted-few : (d : Device) (s : State) (spare batch plan : List ℕ) → Admitted d s spare batch plan → length (sorted batch) ≤ 256
+sorted-few d s spare batch plan p = omega (arith, sorted-length batch, p.short, (limits d p.shape.limits).most_B)
 
 -- Pages that are the sorted batch's.
 module _ (batch ps : List ℕ) (named : ps ≡ logicals (sorted batch)) where

@@ -11,7 +11,7 @@ ghost use Rattle.state.specs.Reading.{read_state};
 ghost use Rattle.state.specs.Ran.{Ran};
 ghost use Rattle.flush.specs.Written.{Admitted, Written, BatchWritten};
 
-use answers::{Flushed, Opened, Refusal};
+use answers::{Flushed, Refusal};
 use front::Numbers;
 use front::counts::{free_count, lowest_free};
 use sorting::order::{all_below, ascends, wrong_size};
@@ -22,31 +22,28 @@ use state::opening::open_with_spare;
 use writing::block::write_block;
 
 // The device numbers where the flush is not refused, else its refusal: 1, 2, 3, 5, 4, 6, the first that applies.
-fn check(state: &[u8], spare: &[u32], batch: &[u32], plan: &[u32]) -> Opened
+fn check(state: &[u8], spare: &[u32], batch: &[u32], plan: &[u32]) -> Result<Numbers, Refusal>
     ensures { verdict_of result ≡ verdict (flush_checks batch.now
         (lend (read_state state.now) spare.now plan.now [])) (read_state state.now).device }
 {
-    let opened = open_with_spare(state, spare);
-    let d = match opened {
-        Opened::Device(d) => d,
-        Opened::Refused(r) => return Opened::Refused(r),
-    };
+    let d = open_with_spare(state, spare)?;
     if plan.len() != d.b as usize {
-        return Opened::Refused(Refusal::BadLength);
+        return Err(Refusal::BadLength);
     }
     if !sound(state, d) {
-        return Opened::Refused(Refusal::NotSound);
+        return Err(Refusal::NotSound);
     }
     if wrong_size(batch, d.b) {
-        return Opened::Refused(Refusal::BadBatch);
+        return Err(Refusal::BadBatch);
     }
     if !all_below(batch, d.n) {
-        return Opened::Refused(Refusal::OutOfRange);
+        return Err(Refusal::OutOfRange);
     }
-    if free_count(state, d) < 2 {
-        return Opened::Refused(Refusal::NoFreeBlock);
+    let few = free_count(state, d) < 2;
+    if few {
+        return Err(Refusal::NoFreeBlock);
     }
-    Opened::Device(d)
+    Ok(d)
 }
 
 // Block k takes the batch, sorted; how many pages it takes. The plan gets the sources.
@@ -85,22 +82,27 @@ fn write_batch(
     if ascends(batch) {
         number(batch, plan);
         write_block(state, spare, d, k, batch);
-        return batch.len() as u32;
+        batch.len() as u32
+    } else {
+        write_sorted(state, spare, plan, d, k, batch)
     }
-    write_sorted(state, spare, plan, d, k, batch)
 }
 
 // Document 01's flush.
-pub fn flush(state: &mut [u8], spare: &mut [u32], batch: &[u32], plan: &mut [u32]) -> Flushed
+pub fn flush(
+    state: &mut [u8],
+    spare: &mut [u32],
+    batch: &[u32],
+    plan: &mut [u32],
+) -> Result<Flushed, Refusal>
     ensures { Ran (flush_call batch.now plan.old) state.old spare.old (flush_answer result)
         (record { state = state.new; spare = spare.new; plan = plan.new; erased = []; out = [] }) }
 {
-    let opened = check(state, spare, batch, plan);
-    let d = match opened {
-        Opened::Device(d) => d,
-        Opened::Refused(r) => return Flushed::Refused(r),
-    };
+    let d = check(state, spare, batch, plan)?;
     let k = lowest_free(state, d);
-    let n = write_batch(state, spare, plan, d, k, batch);
-    Flushed::Done(k * d.b, n)
+    let count = write_batch(state, spare, plan, d, k, batch);
+    Ok(Flushed {
+        first: k * d.b,
+        count,
+    })
 }

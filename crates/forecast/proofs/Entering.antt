@@ -94,21 +94,3 @@ module _ (w : ℕ → ℕ) (s e k first : ℕ) (m : List ℕ) where
 
     pub owned-end : (n : List ℕ) (up o : ℕ) → OwnedSo n up o → e < o → Entered (names w s) slope_number m n
     owned-end n up o so past = entering_end (names w s) slope_number m n o so.0 long (λ i h on. omega (arith, (range i h (eqb-true _ _ on)).1))
-
--- all offsets
-abbrev pub every : ℕ → Bool
-every o = true
-
-module _ (v : ℕ) (m : List ℕ) where
-  abbrev pub FilledSo : List ℕ → ℕ → Type 0
-  FilledSo n o = EnteringSo every (λ i. v) m n o
-
-  pub filled-start : FilledSo m 0
-  filled-start = entering_start every (λ i. v) m 0 (λ i h on. omega arith)
-
-  module _ (long : length m ≡ 256) where
-    pub filled-turn : (n : List ℕ) (o : ℕ) → FilledSo n o → o < 256 → FilledSo (set n o v) (o + 1)
-    filled-turn n o so inside = entering_turn every (λ i. v) m n o v 1 so long inside (λ e. refl) (λ e. absurd (true≢false e)) (λ i a b on. omega arith) (omega arith)
-
-    pub filled-end : (n : List ℕ) (o : ℕ) → FilledSo n o → 256 ≤ o → Entered every (λ i. v) m n
-    filled-end n o so past = entering_end every (λ i. v) m n o so long (λ i h on. omega arith)

@@ -8,8 +8,10 @@ use mathlib.Core.Bool.{Bool, true, false, ◌||◌}
 use Prim.Native.Nat.{ℕ, zero, suc, ◌+◌, ◌-◌, ◌*◌, ◌≤◌, ◌<◌}
 use native.Mathlib.Omega.{arith}
 use lib.Dec.{eqb}
-use lib.ListN.{length, get_or}
+use lib.ListN.{length, get_or, replicate}
+use Rattle.std.proofs.lemmas.List.{length-replicate, get_or-replicate}
 use borrow.Author.Tests.{eqb-true}
+use Rattle.model.specs.Options.{as_option}
 use Rattle.model.specs.Record as model
 use Rattle.model.specs.Record.{kind_of, kind, rise, member}
 use Rattle.model.specs.Levels.{Group, listing, holder, levels_to}
@@ -19,26 +21,24 @@ use Rattle.model.proofs.SoundRecord.{record_parts, parts_record}
 use Rattle.record.specs.declared.Record.{Record}
 use Rattle.record.specs.Read.{bare}
 use Rattle.group.specs.declared.Slot.{Slot}
-use Rattle.group.specs.declared.Hit.{Hit}
-use Rattle.group.specs.declared.Hit.TheVariants.{At, Nowhere}
+use Rattle.group.specs.declared.Descent.{Descent}
 use Rattle.group.specs.Layout.{used_of, slot_of, slots_from, slots_of, owner_of, levels_at}
 use Rattle.group.specs.Cutting.{climbs}
 use Rattle.group.specs.Reading.{placed_of, read_group, encodes, SoundBytes}
-use Rattle.group.specs.Answers.{found_of, looked_of}
 use Rattle.group.proofs.Slots.{encoded}
 use Rattle.group.proofs.SoundSlots.{slot-sound}
-use Rattle.group.proofs.Finding.{hit_from, hit-read, hit-found, hit-missed, hit-top, hit-nowhere}
+use Rattle.group.proofs.Finding.{at, nowhere, hit_from, hit-read, hit-found, hit-missed, hit-top, hit-nowhere}
 use Rattle.slots.specs.Owners.{owning}
 use Rattle.forecast.specs.Forecast.{level_unit, near, page_forecast, forecast, Forecasts, Entered}
 use Rattle.forecast.proofs.Putting.{word_low, rise-small}
 
 -- the number x says what a search for offset o came to
-pub data Says (o x : ℕ) : Hit → Type 0 where
-  has : (r : Record) (n : ℕ) → x ≡ n * level_unit + (near r.intercept + rise (kind_of r.word) o) → rise (kind_of r.word) o < 1024 → Says o x (At r n)
-  lacks : (n : ℕ) → x ≡ n * level_unit → Says o x (Nowhere n)
+pub data Says (o x : ℕ) : Descent → Type 0 where
+  has : (r : Record) (n : ℕ) → x ≡ n * level_unit + (near r.intercept + rise (kind_of r.word) o) → rise (kind_of r.word) o < 1024 → Says o x (at r n)
+  lacks : (n : ℕ) → x ≡ n * level_unit → Says o x (nowhere n)
 
 -- the search through the n slots of b from slot i on
-abbrev pub searched : List ℕ → ℕ → ℕ → ℕ → Hit
+abbrev pub searched : List ℕ → ℕ → ℕ → ℕ → Descent
 searched b n i o = hit_from (owner_of b) o (levels_at b i) (slots_from b i (n - i))
 
 pub record SaysFrom (b l : List ℕ) (n i : ℕ) : Type 0 where
@@ -46,10 +46,10 @@ pub record SaysFrom (b l : List ℕ) (n i : ℕ) : Type 0 where
   pub says : (o : ℕ) → o < 256 → Says o (get_or l o 0) (searched b n i o)
 
 -- behind the last slot
-pub says_none : (b m l : List ℕ) (n v : ℕ) → v ≡ levels_at b n * level_unit → Entered (λ o. true) (λ o. v) m l → SaysFrom b l n n
-says_none b m l n v e so = record {
-  long = so.long;
-  says = λ o h. rw (hit-nowhere b o n n (omega arith)) (lacks (levels_at b n) (so.into o h refl ∙ e));
+pub says_none : (b l : List ℕ) (n v k : ℕ) → v ≡ levels_at b n * level_unit → k ≡ 256 → l ≡ replicate k v → SaysFrom b l n n
+says_none b l n v k e q so = record {
+  long = rw so (length-replicate k v ∙ q);
+  says = λ o h. let z : get_or l o 0 ≡ v = rw so (get_or-replicate k o v 0 (omega arith)) in rw (hit-nowhere b o n n (omega arith)) (lacks (levels_at b n) (z ∙ e));
 }
 
 -- sound in its group, sound in some group
@@ -77,8 +77,8 @@ module _ (o x : ℕ) (g : Group) where
     pub is : x ≡ forecast g o
     pub small : (r : model.Record) → holder o (listing g) ≡ some r → rise (kind r) o < 1024
 
-  by_holder : (h : Hit) (a : Option model.Record) → Says o x h → found_of h ≡ Option.map bare a → looked_of h ≡ levels_to o g → holder o (listing g) ≡ a → Foretold
-  unfolding found_of looked_of forecast page_forecast
+  by_holder : (h : Descent) (a : Option model.Record) → Says o x h → as_option h.held ≡ Option.map bare a → h.levels ≡ levels_to o g → holder o (listing g) ≡ a → Foretold
+  unfolding as_option forecast page_forecast
   by_holder _ none (has r n e low) f l q = let z : ◌≡◌ {A = ℕ} 0 1 = cc in absurd (omega arith)
   by_holder _ (some a) (has r n e low) f l q =
       let k : r ≡ bare a = cc in

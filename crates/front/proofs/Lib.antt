@@ -1,5 +1,5 @@
 pub mod Within
-pub mod Head
+pub mod HeadBytes
 pub mod Tables
 pub mod CountsRead
 pub mod Scanning

@@ -2,26 +2,26 @@
 use mathlib.Core.Path.{◌≡◌, refl, sym, ◌∙◌}
 use mathlib.Core.List.{List, [], ◌∷◌}
 use mathlib.Core.Logic.{◌≢◌}
-use mathlib.Core.Bool.{Bool, true, false}
-use Prim.Native.Nat.{ℕ, suc, ◌+◌, ◌≤◌, ◌<◌}
+use mathlib.Core.Bool.{Bool, true, false, true≢false}
+use Prim.Native.Nat.{ℕ, zero, suc, ◌+◌, ◌≤◌, ◌<◌}
 use native.Mathlib.Omega.{arith}
 use native.Mathlib.Numerals.{add-one}
 use lib.Dec.{leb, eqb}
 use lib.ListN.{length, get_or, drop, drop_of_length-le}
 use lib.Seq.{drop-cons}
-use borrow.Author.Tests.{eqb-true, eqb-false, eq-eqb, ne_eqb, le-leb, lt-leb}
+use borrow.Author.Tests.{eqb-true, eqb-false, eq-eqb, ne_eqb}
+use mir.Val.{bool_byte}
+use Rattle.std.specs.Bool.{MatchBool}
 use Rattle.model.specs.Lists.{all}
+use Rattle.model.proofs.Bools.{and_i, is_false, all_head, all_tail}
 use Rattle.model.specs.State.{free_blocks, lowest_in}
 
--- what the blocks from k on give: the lowest free one, how many are free, whether no count exceeds b
+-- what the blocks from k on give: the lowest free one, how many are free
 unfoldable pub lowest_from : List ℕ → ℕ → ℕ
 lowest_from cs k = get_or (free_blocks k (drop k cs)) 0 0
 
 unfoldable pub free_from : List ℕ → ℕ → ℕ
 free_from cs k = length (free_blocks k (drop k cs))
-
-unfoldable pub counts_within : List ℕ → ℕ → ℕ → Bool
-counts_within cs b k = all (λ c. leb c b) (drop k cs)
 
 -- one more element of the rest, and none
 module _ {A : Type 0} (l : List A) (a : A) (k : ℕ) where
@@ -44,19 +44,13 @@ no_blocks : (k : ℕ) → free_blocks k [] ≡ []
 unfolding free_blocks
 no_blocks k = refl
 
--- 1 where the block is free
-pub free_one : (k c x : ℕ) → c ≡ x → c ≡ 0 → 1 ≡ length (free_blocks k (x ∷ []))
-free_one k c x e z = rw (free_head k x [] (sym e ∙ z), no_blocks (suc k))
-
-pub free_none : (k c x : ℕ) → c ≡ x → (c ≡ 0 → ⊥) → 0 ≡ length (free_blocks k (x ∷ []))
-free_none k c x e n = rw (used_head k x [] (λ q. n (e ∙ q)), no_blocks (suc k))
-
-pub free-small : (k c x : ℕ) → c ≡ length (free_blocks k (x ∷ [])) → c ≤ 1
-free-small k c x e = go (eqb x 0) refl
+-- 1 where the block is free, else 0
+pub free_one : (k c x : ℕ) → c ≡ x → bool_byte (eqb c 0) ≡ length (free_blocks k (x ∷ []))
+free_one k c x e = go (eqb x 0) refl
   where
-    go : (t : Bool) → eqb x 0 ≡ t → c ≤ 1
-    go true q = omega (arith, e, free_one k x x refl (eqb-true x 0 q))
-    go false q = omega (arith, e, free_none k x x refl (eqb-false x 0 q))
+    go : (t : Bool) → eqb x 0 ≡ t → bool_byte (eqb c 0) ≡ length (free_blocks k (x ∷ []))
+    go true q = rw (e, q, free_head k x [] (eqb-true x 0 q), no_blocks (suc k))
+    go false q = rw (e, q, used_head k x [] (eqb-false x 0 q), no_blocks (suc k))
 
 module _ (cs : List ℕ) (k c : ℕ) (e : c ≡ get_or cs k 0) where
   -- the lowest free block, found or not yet
@@ -67,20 +61,6 @@ module _ (cs : List ℕ) (k c : ℕ) (e : c ≡ get_or cs k 0) where
   pub lowest_on : lowest_in cs ≡ lowest_from cs k → k < length cs → (c ≡ 0 → ⊥) → lowest_in cs ≡ lowest_from cs (k + 1)
   unfolding lowest_from
   lowest_on l h n = l ∙ rw (rest cs 0 k h, used_head k (get_or cs k 0) (drop (k + 1) cs) (λ q. n (e ∙ q)), add-one k)
-
-  -- every count is at most b
-  module _ (b : ℕ) where
-    pub within_not : counts_within cs b 0 ≡ counts_within cs b k → k < length cs → b < c → false ≡ counts_within cs b 0
-    unfolding all counts_within
-    within_not q h l = sym (q ∙ rw (rest cs 0 k h, ← e, lt-leb _ _ l))
-
-    pub within_on : counts_within cs b 0 ≡ counts_within cs b k → k < length cs → c ≤ b → counts_within cs b 0 ≡ counts_within cs b (k + 1)
-    unfolding all counts_within
-    within_on q h l = q ∙ rw (rest cs 0 k h, ← e, le-leb _ _ l)
-
-pub within_end : (cs : List ℕ) (k b : ℕ) → counts_within cs b 0 ≡ counts_within cs b k → length cs ≤ k → true ≡ counts_within cs b 0
-unfolding all counts_within
-within_end cs k b q h = sym (q ∙ rw (over cs 0 k h))
 
 pub lowest-end : (cs : List ℕ) (k : ℕ) → lowest_in cs ≡ lowest_from cs k → length cs ≤ k → 0 ≡ lowest_in cs
 unfolding lowest_from
@@ -110,3 +90,21 @@ free-end cs k h = rw (over cs 0 k h, no_blocks k)
 
 pub free_all : (cs : List ℕ) (k n : ℕ) → free_from cs 0 ≡ n + free_from cs k → length cs ≤ k → n ≡ free_from cs 0
 free_all cs k n q h = omega (arith, q, free-end cs k h)
+
+-- whether no count exceeds b, by the counts one by one
+module _ (b : ℕ) where
+  every : (cs : List ℕ) → ((k : ℕ) → k < length cs → leb (get_or cs k 0) b ≡ true) → all (λ c. leb c b) cs ≡ true
+  unfolding all
+  every [] h = refl
+  every (c ∷ cs) h = and_i _ _ (h 0 (omega arith)) (every cs (λ k l. h (suc k) (omega arith)))
+
+  each : (cs : List ℕ) (k : ℕ) → k < length cs → all (λ c. leb c b) cs ≡ true → leb (get_or cs k 0) b ≡ true
+  each [] k l h = absurd (let z : ⊥ = omega arith in z)
+  each (c ∷ cs) zero l h = all_head _ c cs h
+  each (c ∷ cs) (suc k) l h = each cs k (omega arith) (all_tail _ c cs h)
+
+  pub all_told : (cs : List ℕ) (m : ℕ) (r : Bool) → length cs ≡ m
+      → MatchBool r ((k : ℕ) → k < m → leb (get_or cs k 0) b ≡ true) ((k : ℕ) × (k < m) × (leb (get_or cs k 0) b ≡ false))
+      → r ≡ all (λ c. leb c b) cs
+  all_told cs m true e f = sym (every cs (λ k l. f k (omega arith)))
+  all_told cs m false e (k, l, q) = sym (is_false _ (λ h. true≢false (sym (each cs k (omega arith) h) ∙ q)))

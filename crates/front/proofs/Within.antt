@@ -1,28 +1,32 @@
 -- Whether device numbers are within their limits, by the ways that the code answers it. Assumes nothing.
-use mathlib.Core.Path.{◌≡◌, refl, sym}
-use mathlib.Core.Bool.{Bool, true, false}
+use mathlib.Core.Path.{◌≡◌, refl, ◌∙◌}
+use mathlib.Core.Bool.{Bool, true, false, ◌&&◌}
 use Prim.Native.Nat.{ℕ, ◌*◌, ◌-◌, ◌≤◌}
 use native.Mathlib.Omega.{arith}
 use native.Mathlib.Nat.{mul-le-mul}
 use lib.Dec.{leb}
-use borrow.Author.Tests.{leb-true, leb-false}
 use Rattle.model.specs.Device.{Device, within_limits}
-use Rattle.model.proofs.Bools.{is_false}
-use Rattle.model.proofs.Limits.{Limits, limits, limits_test}
-
--- a limit is missed
-pub outside : (d : Device) → (Limits d → ⊥) → false ≡ within_limits d
-outside d f = sym (is_false (within_limits d) (λ h. f (limits d h)))
 
 -- the blocks beside one, each of b pages
 pub room_small : (m b : ℕ) → m ≤ 4096 → b ≤ 256 → (m - 1) * b ≤ 1048320
 room_small m b h l = let k : m - 1 ≤ 4095 = omega arith in mul-le-mul k l
 
--- the others are met, and 2 × N decides
-pub decided : (d : Device) → 3 ≤ d.M → d.M ≤ 4096 → 4 ≤ d.B → d.B ≤ 256 → 1 ≤ d.N → d.g ≤ 15 → leb (2 * d.N) ((d.M - 1) * d.B) ≡ within_limits d
-decided d m m' b b' n g = go (leb (2 * d.N) ((d.M - 1) * d.B)) refl
-  where
-    go : (t : Bool) → leb (2 * d.N) ((d.M - 1) * d.B) ≡ t → t ≡ within_limits d
-    go true e =
-        sym (limits_test d (record { least_M = m; most_M = m'; least_B = b; most_B = b'; least_N = n; most_N = leb-true (2 * d.N) ((d.M - 1) * d.B) e; most_g = g }))
-    go false e = outside d (λ l. omega (arith, l.most_N, leb-false (2 * d.N) ((d.M - 1) * d.B) e))
+-- what `t && b` answers, where t is a
+pub both : {a t v : Bool} (b : Bool) → t ≡ a → t ≡ true → v ≡ b → v ≡ (a && b)
+both b e f g = rw (← e, f) g
+
+pub not_both : {a t v : Bool} (b : Bool) → t ≡ a → t ≡ false → v ≡ t → v ≡ (a && b)
+not_both b e f g = rw (← e, f) (g ∙ f)
+
+and_assoc : (a b c : Bool) → ((a && b) && c) ≡ (a && (b && c))
+and_assoc true b c = refl
+and_assoc false b c = refl
+
+-- all limits but g's
+module _ (d : Device) where
+  abbrev pub but_g : Bool
+  but_g = (((leb 3 d.M && leb d.M 4096) && (leb 4 d.B && leb d.B 256)) && leb 1 d.N) && leb (2 * d.N) ((d.M - 1) * d.B)
+
+  pub by_g : (v : Bool) → v ≡ but_g → within_limits d ≡ (v && leb d.g 15)
+  unfolding within_limits
+  by_g v e = rw (e, and_assoc ((leb 3 d.M && leb d.M 4096) && (leb 4 d.B && leb d.B 256)) (leb 1 d.N) (leb (2 * d.N) ((d.M - 1) * d.B)))

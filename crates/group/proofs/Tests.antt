@@ -1,4 +1,4 @@
--- The tests of a group's size, of one slot and of one owner, a law for each way to answer: the definition with the tests before it
+-- The tests of one slot and of one owner, a law for each way to answer: the definition with the tests before it
 -- decided. Assumes nothing.
 use mathlib.Core.Path.{◌≡◌, refl, sym, ◌∙◌}
 use mathlib.Core.List.{List}
@@ -16,21 +16,7 @@ use Rattle.model.proofs.Bools.{and_l, and_r, and_i, iff_bool}
 use Rattle.record.specs.declared.Record.{Record}
 use Rattle.record.proofs.Words.{kind-zero, kind_even, kind_odd, odd_test}
 use Rattle.group.specs.declared.Slot.{Slot}
-use Rattle.group.specs.Checking.{approx, end_of, offsets_in, shaped_as, shaped, in_place, InLast, free_from, slot_stands, owns_ends, unnamed, without, taken}
-
--- the number of a group's offsets
-module _ (N k : ℕ) where
-  pub offsets_none : N ≤ 256 * k → 0 ≡ offsets_in N k
-  unfolding offsets_in
-  offsets_none h = omega arith
-
-  pub offsets_all : 256 < N - 256 * k → 256 ≡ offsets_in N k
-  unfolding offsets_in
-  offsets_all h = omega arith
-
-  pub offsets_some : N - 256 * k ≤ 256 → N - 256 * k ≡ offsets_in N k
-  unfolding offsets_in
-  offsets_some h = omega arith
+use Rattle.group.specs.Checking.{approx, end_of, shaped_as, shaped, in_place, InLast, free_from, slot_stands, owns_ends, unnamed, without, taken}
 
 -- the record's four numbers
 module _ (m : ℕ) (r : Record) where

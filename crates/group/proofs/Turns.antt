@@ -1,5 +1,5 @@
 -- The passes turn by turn: the test at hand, and the pass over what comes behind. Assumes nothing.
-use mathlib.Core.Path.{◌≡◌, refl, sym, ap, ◌∙◌}
+use mathlib.Core.Path.{◌≡◌, refl, ◌∙◌}
 use mathlib.Core.List.{List, [], ◌∷◌}
 use mathlib.Core.Bool.{Bool, true, false, ◌&&◌}
 use Prim.Native.Nat.{ℕ, zero, suc, ◌+◌, ◌-◌, ◌*◌, ◌%◌, ◌≤◌, ◌<◌}
@@ -115,12 +115,6 @@ module _ (t : ℕ → Bool) where
   every-turn : (n x : ℕ) → x < n → every_from t (n - x) x ≡ (t x && every_from t (n - (x + 1)) (x + 1))
   unfolding every_from
   every-turn n x h = let e : n - x ≡ suc (n - (x + 1)) = omega arith in rw (e, add-one x)
-
-  pub every_fails : (n x : ℕ) → x < n → (b : Bool) → b ≡ t x → b ≡ false → every_from t (n - x) x ≡ false
-  every_fails n x h b e f = every-turn n x h ∙ ap (λ (y : Bool). y && every_from t (n - (x + 1)) (x + 1)) (sym e ∙ f)
-
-  pub every_holds : (n x : ℕ) → x < n → (b : Bool) → b ≡ t x → b ≡ true → every_from t (n - x) x ≡ every_from t (n - (x + 1)) (x + 1)
-  every_holds n x h b e f = every-turn n x h ∙ ap (λ (y : Bool). y && every_from t (n - (x + 1)) (x + 1)) (sym e ∙ f)
 
   pub every-done : (n x : ℕ) → n ≤ x → every_from t (n - x) x ≡ true
   unfolding every_from

@@ -4,18 +4,20 @@
 ghost use Rattle.std.specs.Prelude.{◌≡◌, true, suc, ◌+◌, ◌-◌, ◌<◌, ◌≤◌, length};
 ghost use Rattle.std.proofs.Math.Option.{map};
 ghost use Rattle.model.specs.Device.{group_length};
+ghost use Rattle.model.specs.Options.{as_option};
 ghost use Rattle.model.specs.Levels.{listing, record_count, group_limit, holder, levels_to};
 ghost use Rattle.model.specs.Sound.{sound_group};
 ghost use Rattle.record.specs.Read.{bare};
 ghost use Rattle.record.specs.Coding.{InEight};
 ghost use Rattle.group.specs.Layout.{offsets, used_of, flag_of, slot_of, slot_level, slots_of, entries_of, owner_of, levels_at};
 ghost use Rattle.group.specs.Reading.{encodes, read_group, SoundBytes};
-ghost use Rattle.group.specs.Answers.{found_of, looked_of};
-ghost use Rattle.group.specs.Checking.{approx, offsets_in, shaped, InLast, free_from, slot_stands, slots_pass, no_owners, unnamed, without, owns_ends, taken, left_by, unowned};
+ghost use Rattle.group.specs.Checking.{approx, offsets_in, shaped, InLast, free_from, slot_stands, slots_pass, no_owners, without, owns_ends, taken, left_by, unowned};
 
 use record::Record;
 
 // A group's bytes (docs/LAYOUT.md, 'A group').
+// Kept: tried: `&mut [u8; GROUP_BYTES]` of a part of the state, in place of a slice and its length; nothing is known then of what that part
+// holds after, and the proofs of those that write it don't close.
 pub const GROUP_BYTES: usize = 5636;
 
 // Where the number of used slots stands, the flag that owners are read, the slots and the owners.
@@ -53,11 +55,11 @@ pub struct Slot {
     pub held: Record,
 }
 
-// The first record from the top that has an offset as a member, with the number of levels looked at; or none, and all levels.
+// The first record from the top that has an offset as a member, if there is one, and how many levels were looked at.
 #[derive(Clone, Copy)]
-pub enum Hit {
-    At(Record, u32),
-    Nowhere(u32),
+pub struct Descent {
+    pub held: Option<Record>,
+    pub levels: u32,
 }
 
 // How many slots are used.
@@ -95,14 +97,16 @@ pub fn slot_at(b: &[u8], i: usize) -> Slot
 }
 
 // The owner of offset o: the start of its record plus 1, or 0.
+// Kept: what may not change is `Layout.owner_of`, the number that the bytes hold (docs/LAYOUT.md).
 pub fn owner(b: &[u8], o: u32) -> u32
     requires { (length b.now ≡ group_length) × (o < offsets) }
     ensures { (result ≡ owner_of b.now o) × (result < 65536) }
 {
     if flag(b) == 0 {
-        return 0;
+        0
+    } else {
+        octets::get_u16(b, OWNERS_AT + (o as usize) * OWNER_BYTES)
     }
-    octets::get_u16(b, OWNERS_AT + (o as usize) * OWNER_BYTES)
 }
 
 // How many levels the first i slots have.
@@ -110,10 +114,7 @@ pub fn levels_at(b: &[u8], i: usize) -> u32
     requires { (length b.now ≡ group_length) × (i ≤ group_limit) }
     ensures { result ≡ levels_at b.now i }
 {
-    if i == 0 {
-        return 0;
-    }
-    level(b, i - 1) + 1
+    if i == 0 { 0 } else { level(b, i - 1) + 1 }
 }
 
 // How many records the group holds.
@@ -125,22 +126,26 @@ pub fn record_count(b: &[u8]) -> u32
 }
 
 // Where offset o is found, in a sound group.
-pub fn find(b: &[u8], o: u32) -> Hit
+pub fn find(b: &[u8], o: u32) -> Descent
     requires { (length b.now ≡ group_length) × SoundBytes b.now × (o < offsets) }
-    ensures { (found_of result ≡ map bare (holder o (listing (read_group b.now)))) × (looked_of result ≡ levels_to o (read_group b.now)) }
+    ensures { (as_option result.held ≡ map bare (holder o (listing (read_group b.now)))) × (result.levels ≡ levels_to o (read_group b.now)) }
 {
     let n = used(b) as usize;
     let w = owner(b, o);
-    let mut i = 0;
-    while i < n {
+    for i in 0..n {
         let s = slot_at(b, i);
         let r = s.held;
         if r.member(o, w == r.start + 1) {
-            return Hit::At(r, s.level + 1);
+            return Descent {
+                held: Some(r),
+                levels: s.level + 1,
+            };
         }
-        i += 1;
     }
-    Hit::Nowhere(levels_at(b, n))
+    Descent {
+        held: None,
+        levels: levels_at(b, n),
+    }
 }
 
 // How many offsets of group k are among n pages.
@@ -148,15 +153,7 @@ fn offsets_in(n: u32, k: u32) -> u32
     requires { k ≤ 4096 }
     ensures { (result ≡ offsets_in n k) × (result ≤ offsets) }
 {
-    let below = OFFSETS * k;
-    if n <= below {
-        return 0;
-    }
-    let m = n - below;
-    if OFFSETS < m {
-        return OFFSETS;
-    }
-    m
+    n.saturating_sub(OFFSETS * k).min(OFFSETS)
 }
 
 // Whether the record's four numbers are a sound one's, in a group of m offsets.
@@ -169,18 +166,16 @@ pub fn shaped(r: Record, m: u32) -> bool
     }
     let w = r.word;
     if w % 2 == 1 {
-        return w <= STEEPEST;
+        w <= STEEPEST
+    } else if WIDEST < w {
+        false
+    } else if r.span == 0 {
+        true
+    } else if w <= STRIDE_1 {
+        w == STRIDE_1
+    } else {
+        r.span % (w / 2) == 0
     }
-    if WIDEST < w {
-        return false;
-    }
-    if r.span == 0 {
-        return true;
-    }
-    if w <= STRIDE_1 {
-        return w == STRIDE_1;
-    }
-    r.span % (w / 2) == 0
 }
 
 // Whether a slot may stand behind those before it, which make so many levels: its record is shaped, and its place is `free` or
@@ -189,14 +184,7 @@ fn stands(s: Slot, m: u32, levels: u32, free: u32) -> bool
     requires { (s.level < 65536) × InEight s.held × InLast levels free }
     ensures { result ≡ slot_stands m levels (free_from levels free) s }
 {
-    let r = s.held;
-    if OFFSETS * s.level + r.start < free {
-        return false;
-    }
-    if levels < s.level {
-        return false;
-    }
-    shaped(r, m)
+    free <= OFFSETS * s.level + s.held.start && s.level <= levels && shaped(s.held, m)
 }
 
 // Whether each slot may stand behind those before it, where no offset is owned: none is approximate.
@@ -207,11 +195,11 @@ fn plain_pass(b: &[u8], m: u32) -> bool
     let end = used(b) as usize;
     let mut levels = 0;
     let mut free = 0;
-    let mut i = 0;
-    while i < end {
+    for i in 0..end {
         let s = slot_at(b, i);
         let r = s.held;
-        if r.word % 2 == 1 {
+        let approximate = r.word % 2 == 1;
+        if approximate {
             return false;
         }
         if !stands(s, m, levels, free) {
@@ -219,7 +207,6 @@ fn plain_pass(b: &[u8], m: u32) -> bool
         }
         levels = s.level + 1;
         free = OFFSETS * s.level + r.start + r.span + 1;
-        i += 1;
     }
     true
 }
@@ -229,21 +216,9 @@ fn copy_entries(b: &[u8], owners: &mut [u16])
     requires { (length b.now ≡ group_length) × (length owners.old ≡ offsets) }
     ensures { owners.new ≡ entries_of b.now }
 {
-    let mut o = 0;
-    while o < OFFSETS as usize {
+    for o in 0..OFFSETS as usize {
         owners[o] = octets::get_u16(b, OWNERS_AT + o * OWNER_BYTES) as u16;
-        o += 1;
     }
-}
-
-// An owner, or 0 where it is the one named.
-fn unnamed(name: u16, v: u16) -> u16
-    ensures { result ≡ unnamed name v }
-{
-    if v == name {
-        return 0;
-    }
-    v
 }
 
 // Takes the one named from the owners of the offsets from `first` to `last`.
@@ -251,10 +226,9 @@ fn take(owners: &mut [u16], name: u16, first: usize, last: usize)
     requires { (length owners.old ≡ offsets) × (first ≤ last) × (last < offsets) }
     ensures { owners.new ≡ without name (suc (last - first)) first owners.old }
 {
-    let mut o = first;
-    while o <= last {
-        owners[o] = unnamed(name, owners[o]);
-        o += 1;
+    for o in first..=last {
+        let v = owners[o];
+        owners[o] = if v == name { 0 } else { v };
     }
 }
 
@@ -269,10 +243,7 @@ fn owns_ends(owners: &mut [u16], r: Record) -> bool
     let first = r.start as usize;
     let last = (r.start + r.span) as usize;
     let name = (r.start + 1) as u16;
-    if owners[first] != name {
-        return false;
-    }
-    if owners[last] != name {
+    if owners[first] != name || owners[last] != name {
         return false;
     }
     take(owners, name, first, last);
@@ -287,8 +258,7 @@ fn slots_pass(b: &[u8], owners: &mut [u16], m: u32) -> bool
     let end = used(b) as usize;
     let mut levels = 0;
     let mut free = 0;
-    let mut i = 0;
-    while i < end {
+    for i in 0..end {
         let s = slot_at(b, i);
         if !stands(s, m, levels, free) {
             return false;
@@ -299,7 +269,6 @@ fn slots_pass(b: &[u8], owners: &mut [u16], m: u32) -> bool
         }
         levels = s.level + 1;
         free = OFFSETS * s.level + r.start + r.span + 1;
-        i += 1;
     }
     true
 }
@@ -310,10 +279,8 @@ fn unowned(owners: &[u16]) -> bool
     ensures { result ≡ unowned owners.now }
 {
     let mut any = 0;
-    let mut o = 0;
-    while o < OFFSETS as usize {
-        any |= owners[o];
-        o += 1;
+    for w in owners {
+        any |= *w;
     }
     any == 0
 }
@@ -332,8 +299,5 @@ pub fn sound(b: &[u8], n: u32, k: u32) -> bool
     }
     let mut owners = [0u16; OFFSETS as usize];
     copy_entries(b, &mut owners);
-    if !slots_pass(b, &mut owners, m) {
-        return false;
-    }
-    unowned(&owners)
+    slots_pass(b, &mut owners, m) && unowned(&owners)
 }

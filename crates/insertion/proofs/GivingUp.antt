@@ -1,4 +1,5 @@
 -- Slot after slot gives up offsets: what a turn gives, and what the list is in between. Assumes nothing.
+use Rattle.std.specs.Prelude as code
 use mathlib.Core.Path.{◌≡◌, refl, sym, ◌∙◌, ap, subst}
 use mathlib.Core.List.{List, [], ◌∷◌}
 use mathlib.Core.Option.{Option, none, some}
@@ -14,8 +15,6 @@ use Rattle.model.specs.Levels.{shrink}
 use Rattle.model.proofs.Bools.{and_l}
 use Rattle.octets.specs.Slots.{remove_at}
 use Rattle.record.specs.declared.Record.{Record}
-use Rattle.record.specs.declared.Left.{Left}
-use Rattle.record.specs.declared.Left.TheVariants.{Kept, Gone}
 use Rattle.record.specs.Read.{as_record}
 use Rattle.record.specs.Scan.{masked}
 use Rattle.group.specs.declared.Slot.{Slot}
@@ -48,13 +47,13 @@ module _ (b : List ℕ) (i : ℕ) (h : i < length (slots_of b)) (s : Slot) (got 
       let e : given (masked taken) (held_at i l) ≡ some (held_at i l) = keeps_unnoted b l shown taken losers noted i h (loses_is l shown ∙ n) in
       rw e (subst (Shown b) (sym (set-get_or l i no_slot)) shown, add-one i)
 
-  module _ (y : t ≡ true) (c : List ℕ) (x : Left) (left : LeftOf b c taken s.held x) where
+  module _ (y : t ≡ true) (c : List ℕ) (x : code.Option Record) (left : LeftOf b c taken s.held x) where
     slope : (l : List Placed) → Shown b l → given (masked taken) (held_at i l) ≡ shrink (masked taken) (held_at i l)
     unfolding is_loser
     slope l shown = given-approximate (masked taken) (held_at i l) (and_l (is_approximate (kind (held_at i l))) _ (loses_is l shown ∙ y))
 
     -- A loser of which something is left.
-    pub give_kept : (u : Record) → x ≡ Kept u → (d : List ℕ) → Shows d (set (slots_of c) i (record { level = s.level; held = u })) (owner_of c) → Noted d taken losers × Gives (masked taken) b d i (i + 1)
+    pub give_kept : (u : Record) → x ≡ code.Some u → (d : List ℕ) → Shows d (set (slots_of c) i (record { level = s.level; held = u })) (owner_of c) → Noted d taken losers × Gives (masked taken) b d i (i + 1)
     unfolding keep_next
     give_kept u q d put = (
       still_noted b c d taken losers s.held x noted left put.2,
@@ -65,7 +64,7 @@ module _ (b : List ℕ) (i : ℕ) (h : i < length (slots_of b)) (s : Slot) (got 
     )
 
     -- One of which nothing is left.
-    pub give_gone : x ≡ Gone → (d : List ℕ) → Shows d (remove_at i (slots_of c)) (owner_of c) → Noted d taken losers × Gives (masked taken) b d i i
+    pub give_gone : x ≡ code.None → (d : List ℕ) → Shows d (remove_at i (slots_of c)) (owner_of c) → Noted d taken losers × Gives (masked taken) b d i i
     unfolding keep_next
     give_gone q d put = (
       still_noted b c d taken losers s.held x noted left put.2,

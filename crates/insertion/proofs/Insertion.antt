@@ -83,7 +83,7 @@ module _ (b m : List ℕ) (r : Record) (q : Ready b m r) where
   abbrev inserted : Group
   inserted = insert R q.group
 
-  abbrev given_up : Group
+  abbrev pub given_up : Group
   given_up = give_up_all R q.group
 
   -- level 0 and the others, before the turns; the list behind them

@@ -1,5 +1,6 @@
 -- Which approximate records lose offsets to a new one: a record that loses none stays as it is, and one whose number isn't noted loses
 -- none. Assumes nothing.
+use Rattle.std.specs.Prelude as code
 use mathlib.Core.Path.{◌≡◌, refl, sym, ◌∙◌, ap}
 use mathlib.Core.List.{List, [], ◌∷◌}
 use mathlib.Core.Option.{Option, some}
@@ -19,7 +20,6 @@ use Rattle.model.proofs.Lists.{picked, asc_select}
 use Rattle.model.proofs.Order.{sound-within}
 use Rattle.model.proofs.SoundRecord.{record_parts, sound-ascends, owned-member}
 use Rattle.record.specs.Scan.{masked}
-use Rattle.record.specs.declared.Left.{Left}
 use Rattle.record.specs.declared.Record as declared
 use Rattle.group.specs.Layout.{slots_of, owner_of}
 use Rattle.group.specs.Cutting.{Placed}
@@ -103,7 +103,7 @@ module _ (b : List ℕ) (l : List Placed) (shown : Shown b l) where
             ∙ ap (λ (m : List Placed). s ∷ m) (go k (λ i h. each (suc i) (omega arith)))
 
 -- offsets taken lose their owner or keep it, so that whoever owns one is still noted
-pub still_noted : (b c d taken losers : List ℕ) (r : declared.Record) (x : Left) → Noted b taken losers → LeftOf b c taken r x → ((o : ℕ) → o < 256 → owner_of d o ≡ owner_of c o) → Noted d taken losers
+pub still_noted : (b c d taken losers : List ℕ) (r : declared.Record) (x : code.Option declared.Record) → Noted b taken losers → LeftOf b c taken r x → ((o : ℕ) → o < 256 → owner_of d o ≡ owner_of c o) → Noted d taken losers
 unfolding either
 still_noted b c d taken losers r x noted left same o h t some-owner = go (is_approximate (kind_of r.word)) (eqb (owner_of b o) (suc r.start)) refl refl
   where

@@ -1,5 +1,6 @@
 -- What is left of one of the records that the bytes hold: the offsets' owners are sums, so that whoever owns an offset is
 -- told by its owner, and afterwards they are the sums with what is left of the record in its place. Assumes nothing.
+use Rattle.std.specs.Prelude as code
 use mathlib.Core.Path.{◌≡◌, refl, sym, ◌∙◌, ap, subst}
 use mathlib.Core.List.{List, [], ◌∷◌, map}
 use mathlib.Core.Option
@@ -10,6 +11,7 @@ use native.Mathlib.Omega.{arith}
 use lib.Dec.{eqb}
 use lib.ListN.{length, get_or, set}
 use borrow.Author.Tests.{eqb-true, eqb-false, eq-eqb}
+use Rattle.model.specs.Options.{as_option}
 use Rattle.model.specs.Lists.{all, elem}
 use Rattle.model.specs.Record as model
 use Rattle.model.specs.Record.{Kind, single, accurate, approximate, kind_of, kind, is_approximate, member}
@@ -23,9 +25,7 @@ use Rattle.model.proofs.Total.{indicator_le}
 use Rattle.model.proofs.SoundRecord.{record_parts, sound-ascends, sound-owner, owned-member, shrunk-owned, shrunk-sound}
 use Rattle.octets.specs.Slots.{remove_at}
 use Rattle.record.specs.declared.Record.{Record}
-use Rattle.record.specs.declared.Left.{Left}
-use Rattle.record.specs.declared.Left.TheVariants.{Kept, Gone}
-use Rattle.record.specs.Read.{as_record, bare, left_of}
+use Rattle.record.specs.Read.{as_record, bare}
 use Rattle.record.specs.Scan.{masked}
 use Rattle.record.specs.Coding.{InEight}
 use Rattle.group.specs.declared.Slot.{Slot}
@@ -65,17 +65,17 @@ module _ (lost : ℕ → Bool) (v : model.Record) (o : ℕ) where
       go (some u) e = at u e (weighs o u)
 
   -- and one that it owns
-  adds-start : o < 256 → is_approximate (kind v) ≡ true → member v o ≡ true → lost o ≡ false → (x : Left) → left_of x ≡ Option.map bare (shrink lost v) → weight_left o (shrink lost v) ≡ suc (start_left x)
-  unfolding weight_left left_of start_left weight
+  adds-start : o < 256 → is_approximate (kind v) ≡ true → member v o ≡ true → lost o ≡ false → (x : code.Option Record) → as_option x ≡ Option.map bare (shrink lost v) → weight_left o (shrink lost v) ≡ suc (start_left x)
+  unfolding weight_left as_option start_left weight
   adds-start h slope e kept x q = go (shrink lost v) (shrink-outcome lost v) x q
     where
-      go : (y : Option model.Record) → Outcome lost v y → (x : Left) → left_of x ≡ Option.map bare y → weight_left o y ≡ suc (start_left x)
+      go : (y : Option model.Record) → Outcome lost v y → (x : code.Option Record) → as_option x ≡ Option.map bare y → weight_left o y ≡ suc (start_left x)
       go none (gone all-lost) x q = absurd (true≢false (sym (all-lost o h e) ∙ kept))
-      go (some u) (left s) (Kept w) q =
+      go (some u) (left s) (code.Some w) q =
           let owned : elem o u.owned ≡ true = sym (owned-member u o (ap (λ (k : ℕ). is_approximate (kind_of k)) s.word ∙ slope)) ∙ s.rest o h e kept in
           let same : w ≡ bare u = cc in
           rw (owned, weight, same)
-      go (some u) (left s) Gone q = let z : ◌≡◌ {A = ℕ} 0 1 = cc in absurd (omega arith)
+      go (some u) (left s) code.None q = let z : ◌≡◌ {A = ℕ} 0 1 = cc in absurd (omega arith)
 
 -- a sound record among others, whose owners are theirs
 module _ (b : List ℕ) (v : model.Record) (others : List model.Record) (sound : sound_record 256 0 v ≡ true) (others-sound : all (sound_record 256 0) others ≡ true)
@@ -115,8 +115,8 @@ module _ (b : List ℕ) (v : model.Record) (others : List model.Record) (sound :
       go (accurate d) e = exact (ap is_approximate e)
       go (approximate a) e = sloped (ap is_approximate e)
 
-  module _ (c taken : List ℕ) (x : Left) (left : LeftOf b c taken (bare v) x) where
-    pub left_is : left_of x ≡ Option.map bare (shrink (masked taken) v)
+  module _ (c taken : List ℕ) (x : code.Option Record) (left : LeftOf b c taken (bare v) x) where
+    pub left_is : as_option x ≡ Option.map bare (shrink (masked taken) v)
     left_is = left.left ∙ ap (λ (r : model.Record). Option.map bare (shrink (masked taken) r)) owning-back
 
     -- what is left of it takes its part in the owners
@@ -186,31 +186,31 @@ module _ (b : List ℕ) (l : List Placed) (shown : Shown b l) (i : ℕ) (h : i <
     pub slot_range : OwnsInRange (owner_of b) s.held
     slot_range = rw numbers (in_range b v others held-sound others-sound once owner_is_lem)
 
-    module _ (c taken : List ℕ) (x : Left) (left : LeftOf b c taken s.held x) where
+    module _ (c taken : List ℕ) (x : code.Option Record) (left : LeftOf b c taken s.held x) where
       left-bare : LeftOf b c taken (bare v) x
       left-bare = subst (λ (r : Record). LeftOf b c taken r x) numbers left
 
-      is_left : left_of x ≡ Option.map bare (shrink (masked taken) v)
+      is_left : as_option x ≡ Option.map bare (shrink (masked taken) v)
       is_left = left_is b v others held-sound others-sound once owner_is_lem c taken x left-bare
 
       -- nothing is left of it, or a record, which fits
-      pub nothing_left : x ≡ Gone → shrink (masked taken) v ≡ none
-      unfolding left_of
-      nothing_left q = go (shrink (masked taken) v) (ap left_of (sym q) ∙ is_left)
+      pub nothing_left : x ≡ code.None → shrink (masked taken) v ≡ none
+      unfolding as_option
+      nothing_left q = go (shrink (masked taken) v) (ap as_option (sym q) ∙ is_left)
         where
           go : (y : Option model.Record) → none ≡ Option.map bare y → y ≡ none
           go none e = refl
           go (some w) e = let z : ◌≡◌ {A = ℕ} 0 1 = cc in absurd (omega arith)
 
-      pub record_left : (u : Record) → x ≡ Kept u → Rest (masked taken) v u
-      unfolding left_of
-      record_left u q = go (shrink (masked taken) v) refl (ap left_of (sym q) ∙ is_left)
+      pub record_left : (u : Record) → x ≡ code.Some u → Rest (masked taken) v u
+      unfolding as_option
+      record_left u q = go (shrink (masked taken) v) refl (ap as_option (sym q) ∙ is_left)
         where
           go : (y : Option model.Record) → shrink (masked taken) v ≡ y → some u ≡ Option.map bare y → Rest (masked taken) v u
           go none e p = let z : ◌≡◌ {A = ℕ} 0 1 = cc in absurd (omega arith)
           go (some w) e p = record { rest = w; is = e; numbers = cc }
 
-      pub left-eight : (u : Record) → x ≡ Kept u → InEight u
+      pub left-eight : (u : Record) → x ≡ code.Some u → InEight u
       left-eight u q = let w = record_left u q in rw w.numbers (sound-eight w.rest (shrunk-sound 256 0 (masked taken) v w.rest held-sound w.is))
 
       -- The bytes that hold the others, and what is left of it wherever that stands.
@@ -240,7 +240,7 @@ module _ (b : List ℕ) (l : List Placed) (shown : Shown b l) (i : ℕ) (h : i <
               go (some w) e = each w e
 
       -- It is put in its place, or taken out.
-      pub kept-shown : (u : Record) (n : ℕ) (t : List ℕ) → x ≡ Kept u → Shows t (set (slots_of c) i (record { level = n; held = u })) (owner_of c)
+      pub kept-shown : (u : Record) (n : ℕ) (t : List ℕ) → x ≡ code.Some u → Shows t (set (slots_of c) i (record { level = n; held = u })) (owner_of c)
           → Shown t (keep_at i n (shrink (masked taken) v) l)
       unfolding keep_at
       kept-shown u n t q put =
@@ -248,7 +248,7 @@ module _ (b : List ℕ) (l : List Placed) (shown : Shown b l) (i : ℕ) (h : i <
           let slots : slots_of t ≡ map slot_for (keep_at i n (shrink (masked taken) v) l) = put.1 ∙ rw (left.slots, shown.slots, w.numbers, w.is) (sym (map-set slot_for l i (slot n w.rest))) in
           left-shown _ t (λ f. keep-total f i n (shrink (masked taken) v) l inside) (put.0, slots, put.2)
 
-      pub gone_shown : (n : ℕ) (t : List ℕ) → x ≡ Gone → Shows t (remove_at i (slots_of c)) (owner_of c) → Shown t (keep_at i n (shrink (masked taken) v) l)
+      pub gone_shown : (n : ℕ) (t : List ℕ) → x ≡ code.None → Shows t (remove_at i (slots_of c)) (owner_of c) → Shown t (keep_at i n (shrink (masked taken) v) l)
       unfolding keep_at
       gone_shown n t q put =
           let slots : slots_of t ≡ map slot_for (keep_at i n (shrink (masked taken) v) l) = put.1 ∙ rw (left.slots, shown.slots, nothing_left q) (sym (map-remove_at slot_for i l)) in

@@ -3,13 +3,13 @@
 use mathlib.Core.Path.{◌≡◌, refl, sym, ◌∙◌, ap}
 use mathlib.Core.List.{List, [], ◌∷◌}
 use mathlib.Core.Bool.{Bool, true, false}
-use Prim.Native.Nat.{ℕ, zero, suc, ◌+◌, ◌≤◌, ◌<◌}
+use Prim.Native.Nat.{ℕ, zero, suc, ◌+◌, ◌-◌, ◌≤◌, ◌<◌}
 use native.Mathlib.Omega.{arith}
 use native.Mathlib.Numerals.{add-one}
-use lib.Dec.{leb}
+use lib.Dec.{leb, ltb, eqb}
 use lib.ListN.{length, get_or, take, drop, drop_of_length-le}
 use lib.Seq.{drop-cons}
-use borrow.Author.Tests.{leb-true, le-leb, lt-ltb, le-ltb, eq-eqb, ne_eqb}
+use borrow.Author.Tests.{eqb-true, eqb-false, ltb-true, ltb-false, leb-true, le-leb, lt-ltb, le-ltb, eq-eqb, ne_eqb}
 use Rattle.model.specs.Lists.{all}
 use Rattle.model.specs.Record as model
 use Rattle.model.specs.Record.{end}
@@ -23,29 +23,28 @@ use Rattle.group.specs.Cutting.{flat_from}
 use Rattle.group.specs.Held.{slot_for, slots_for}
 use Rattle.group.specs.Answers.{no_slot}
 use Rattle.insertion.specs.Slots as placed
+use Rattle.insertion.specs.Searches.{Border, is_early}
 use Rattle.insertion.specs.Turns.{ends_before, is_ahead, count_ahead, meets_first}
 use Rattle.insertion.proofs.ListWrites.{all_at}
 use Rattle.insertion.proofs.Count.{top-length, all_from}
 
--- a search by halves for the place where one of two tests gives way to the other: what is known of its bounds
-pub record Between (Low High : ℕ → Type 0) (most low high : ℕ) : Type 0 where
-  pub order : low ≤ high
-  pub inside : high ≤ most
-  pub below : Low low
-  pub above : High high
+-- a search by halves, from all numbers below n on
+pub border_start : (t : ℕ → Bool) (n : ℕ) → Border t n 0 n
+border_start t n = record { order = omega arith; inside = omega arith; below = λ h. absurd (let z : ⊥ = omega arith in z); above = λ h. absurd (let z : ⊥ = omega arith in z) }
 
-module _ (Low High : ℕ → Type 0) (most low high : ℕ) (so : Between Low High most low high) (mid : ℕ) (from : low ≤ mid) (to : mid < high) where
-  pub search_up : Low (mid + 1) → Between Low High most (mid + 1) high
-  search_up here = record { order = omega arith; inside = so.inside; below = here; above = so.above }
+-- a number in the middle passes the test or fails it
+module _ (t : ℕ → Bool) (n low high : ℕ) (so : Border t n low high) (mid : ℕ) (from : low ≤ mid) (to : mid < high) where
+  pub border_up : t mid ≡ true → Border t n (mid + 1) high
+  border_up e = record { order = omega arith; inside = so.inside; below = λ h. let q : mid + 1 - 1 ≡ mid = omega arith in rw q e; above = so.above }
 
-  pub search_down : High mid → Between Low High most low mid
-  search_down here = record { order = from; inside = omega (arith, so.inside); below = so.below; above = here }
+  pub border_down : t mid ≡ false → Border t n low mid
+  border_down e = record { order = from; inside = omega (arith, so.inside); below = so.below; above = λ h. e }
 
 -- level 0 doesn't end before place i, or not behind it
-abbrev pub EndsFrom : List Slot → ℕ → Type 0
+abbrev EndsFrom : List Slot → ℕ → Type 0
 EndsFrom k i = (l : Level) (g : Group) → k ≡ slots_for (l ∷ g) → i ≤ length l
 
-abbrev pub EndsBy : List Slot → ℕ → Type 0
+abbrev EndsBy : List Slot → ℕ → Type 0
 EndsBy k i = (l : Level) (g : Group) → k ≡ slots_for (l ∷ g) → length l ≤ i
 
 -- the slots of level 0 hold its records, and those behind them are of other levels
@@ -69,19 +68,25 @@ level_out [] g i n = omega arith
 level_out (s ∷ l) g zero n = absurd (n refl)
 level_out (s ∷ l) g (suc i) n = omega (arith, level_out l g i n)
 
-pub ending-start : (k : List Slot) (n : ℕ) → n ≡ length k → Between (EndsFrom k) (EndsBy k) (length k) 0 n
-ending-start k n e = record {
-  order = omega arith;
-  inside = omega arith;
-  below = λ l g is. omega arith;
-  above = λ l g is. omega (arith, top-length l g, ap (λ (m : List Slot). length m) is);
-}
-
-pub ends-behind : (k : List Slot) (i : ℕ) → i < length k → (get_or k i no_slot).level ≡ 0 → EndsFrom k (i + 1)
+ends-behind : (k : List Slot) (i : ℕ) → i < length k → (get_or k i no_slot).level ≡ 0 → EndsFrom k (i + 1)
 ends-behind k i h e l g is = omega (arith, level_in l g i (rw is at h) (rw is at e))
 
-pub ends_before_lem : (k : List Slot) (i : ℕ) → ((get_or k i no_slot).level ≡ 0 → ⊥) → EndsBy k i
+ends_before_lem : (k : List Slot) (i : ℕ) → ((get_or k i no_slot).level ≡ 0 → ⊥) → EndsBy k i
 ends_before_lem k i n l g is = level_out l g i (λ e. n (rw is e))
+
+-- the number of slots of level 0 is where the test of their levels turns
+pub level_found : (k : List Slot) (r : ℕ) → Border (λ i. eqb (get_or k i no_slot).level 0) (length k) r r → (l : Level) (g : Group) → k ≡ slots_for (l ∷ g) → r ≡ length l
+level_found k r so l g is = omega (arith, from r so.below so.inside, by (ltb r (length k)) refl)
+  where
+    from : (x : ℕ) → (0 < x → eqb (get_or k (x - 1) no_slot).level 0 ≡ true) → x ≤ length k → x ≤ length l
+    from zero b h = omega arith
+    from (suc i) b h =
+        let q : suc i - 1 ≡ i = omega arith in
+        omega (arith, ends-behind k i (omega arith) (eqb-true _ _ (rw q at (b (omega arith)))) l g is)
+
+    by : (t : Bool) → ltb r (length k) ≡ t → length l ≤ r
+    by true e = ends_before_lem k r (eqb-false _ _ (so.above (ltb-true _ _ e))) l g is
+    by false e = omega (arith, ltb-false r (length k) e, top-length l g, ap (λ (m : List Slot). length m) is)
 
 -- in a level in order, records before one that ends before an offset end before it too
 starts_from : (o : ℕ) (l : Level) (i : ℕ) (d : model.Record) → ordered o l ≡ true → i < length l → o ≤ (get_or l i d).start
@@ -106,15 +111,19 @@ end_through start o (s ∷ l) (suc i) d e h k =
 abbrev pub Early : List Slot → ℕ → ℕ → ℕ → Type 0
 Early k z start i = (l : Level) (g : Group) → k ≡ slots_for (l ∷ g) → z ≡ length l → ordered 0 l ≡ true → all (ends_before start) (take i l) ≡ true
 
-pub early_none : (k : List Slot) (z start : ℕ) → Early k z start 0
-unfolding all
-early_none k z start l g is n e = refl
-
-pub early_through : (k : List Slot) (z start i : ℕ) (s : Slot) → i < z → s ≡ get_or k i no_slot → s.held.start + s.held.span < start → Early k z start (i + 1)
+early_through : (k : List Slot) (z start i : ℕ) (s : Slot) → i < z → s ≡ get_or k i no_slot → s.held.start + s.held.span < start → Early k z start (i + 1)
 early_through k z start i s inside got h l g is n e =
     let at : s ≡ slot_for (placed.slot 0 (get_or l i (placed.no_slot).item)) = got ∙ ap (λ (m : List Slot). get_or m i no_slot) is ∙ top-slot l g i (omega arith) in
     let ends : end (get_or l i (placed.no_slot).item) < start = rw at at h in
     rw (add-one i) (end_through start 0 l i (placed.no_slot).item e (omega arith) ends)
+
+-- their number is where the test of their ends turns
+pub early_found : (k : List Slot) (z start r : ℕ) → Border (λ i. is_early start (get_or k i no_slot)) z r r → Early k z start r
+unfolding all
+early_found k z start zero so = λ l g is n e. refl
+early_found k z start (suc i) so =
+    let q : suc i - 1 ≡ i = omega arith in
+    rw (← add-one i) (early_through k z start i (get_or k i no_slot) (omega (arith, so.inside)) refl (ltb-true _ _ (rw q at (so.below (omega arith)))))
 
 -- a slot that is there
 module _ (k : List Slot) (i : ℕ) (s : Slot) (inside : i < length k) (is : s ≡ get_or k i no_slot) where

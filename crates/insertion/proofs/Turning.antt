@@ -1,4 +1,5 @@
 -- A slot of level 0 meets its fate: one law for each way that the turn goes. Assumes nothing.
+use Rattle.std.specs.Prelude as code
 use mathlib.Core.Path.{◌≡◌, refl, sym, ◌∙◌, ap, subst}
 use mathlib.Core.List.{List, [], ◌∷◌, ◌++◌}
 use mathlib.Core.Option.{Option, none, some}
@@ -12,8 +13,6 @@ use Rattle.model.specs.Levels.{Level, meets, shrink, Fate, stays, sinks, fate_le
 use Rattle.model.specs.Totals.{total}
 use Rattle.octets.specs.Slots.{remove_at}
 use Rattle.record.specs.declared.Record.{Record}
-use Rattle.record.specs.declared.Left.{Left}
-use Rattle.record.specs.declared.Left.TheVariants.{Kept, Gone}
 use Rattle.record.specs.Read.{as_record, bare}
 use Rattle.record.specs.Scan.{masked}
 use Rattle.group.specs.declared.Slot.{Slot}
@@ -89,19 +88,19 @@ module _ (b : List ℕ) (i z : ℕ) (q : Facing b i z) where
           on v.owned L ∙ ap (λ (y : Record). side R (as_record y v.owned)) is_held,
         )
 
-    module _ (meeting : t ≡ true) (c : List ℕ) (x : Left) (left : LeftOf b c m s.held x) where
+    module _ (meeting : t ≡ true) (c : List ℕ) (x : code.Option Record) (left : LeftOf b c m s.held x) where
       fate_is : (y : Option model.Record) → shrink (masked m) v ≡ y → fate R v ≡ fate_left R y
       unfolding fate
       fate_is y e = rw (meets_is ∙ meeting, fate) (ap (fate_left R) (sym (shrink_same (masked m) (member R) v masks) ∙ e))
 
       -- nothing is left of it
-      pub turn_gone : x ≡ Gone → (d : List ℕ) → Shows d (remove_at i (slots_of c)) (owner_of c) → Comes d Taken (fate R q.at.item)
+      pub turn_gone : x ≡ code.None → (d : List ℕ) → Shows d (remove_at i (slots_of c)) (owner_of c) → Comes d Taken (fate R q.at.item)
       unfolding staying sinking sink_all outcome keep_at fate_left
       turn_gone g d put =
           let none_left = nothing_left b l q.shown i facing_inside s got c m x left g in
           fated d Taken _ (fate_is none none_left) (subst (Shown d) (ap (λ (y : Option model.Record). keep_at i 0 y l) none_left ∙ removed) (gone_shown b l q.shown i facing_inside s got c m x left 0 d g put), refl)
 
-      module _ (u : Record) (g : x ≡ Kept u) (t2 : Bool) (meet2 : (K M : List ℕ) → t2 ≡ meets (as_record u K) (as_record r M)) where
+      module _ (u : Record) (g : x ≡ code.Some u) (t2 : Bool) (meet2 : (K M : List ℕ) → t2 ≡ meets (as_record u K) (as_record r M)) where
         -- what is left of it, as a record
         remains : Rest (masked m) v u
         remains = record_left b l q.shown i facing_inside s got c m x left u g

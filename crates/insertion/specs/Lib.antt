@@ -4,3 +4,4 @@ pub mod InsertSlots
 pub mod Shown
 pub mod Ready
 pub mod Turns
+pub mod Searches

@@ -7,7 +7,10 @@ use Prim.Native.Nat.{ℕ, zero, suc, ◌+◌, ◌-◌, ◌≤◌, ◌<◌}
 use native.Mathlib.Omega.{arith}
 use native.Mathlib.Numerals.{add-one}
 use lib.ListN.{length, set}
+use Rattle.std.specs.Prelude as code
+use Rattle.std.specs.Option.{is_some, unwrap_or}
 use Rattle.model.specs.Lists.{store}
+use Rattle.model.specs.Options.{as_option}
 use Rattle.model.proofs.Lists.{store_nil, store_first}
 use Rattle.lines.specs.Script.{number_in, field_at, joined, numbers_from}
 use Rattle.lines.specs.Reading.{is_there, value_of, values_from}
@@ -31,6 +34,12 @@ joined-values (some n) (some ns) vs h f = ap (λ (q : Option (List ℕ)). joined
 joined-values (some n) none vs h f = absurd (false≢true h)
 joined-values none p vs h f = absurd (false≢true h)
 
+-- a number that the code found, otherwise 0
+pub value-told : (o : code.Option ℕ) (p : Option ℕ) → as_option o ≡ p → unwrap_or o 0 ≡ value_of p
+unfolding as_option value_of
+value-told (code.Some n) p e = rw (← e)
+value-told code.None p e = rw (← e)
+
 module _ (l : List ℕ) where
   -- number i, and those behind it
   numbers_first : (i count : ℕ) → i < count → numbers_from l i (count - i) ≡ joined (number_in (field_at l i)) (numbers_from l (i + 1) (count - (i + 1)))
@@ -40,13 +49,16 @@ module _ (l : List ℕ) where
       rw (e, ← add-one i)
 
   -- a field that holds none
-  pub field_bad : (i count : ℕ) → i < count → number_in (field_at l i) ≡ none → is_there (numbers_from l i (count - i)) ≡ false
-  unfolding is_there joined
-  field_bad i count h e = rw (numbers_first i count h, e)
+  pub field_bad : (i count : ℕ) (o : code.Option ℕ) → i < count → as_option o ≡ number_in (field_at l i) → is_some o ≡ false → is_there (numbers_from l i (count - i)) ≡ false
+  unfolding as_option is_there joined
+  field_bad i count (code.Some n) h e k = absurd (true≢false k)
+  field_bad i count code.None h e k = rw (numbers_first i count h, ← e)
 
   -- a field that holds one
-  pub field_good : (i count n : ℕ) → i < count → number_in (field_at l i) ≡ some n → is_there (numbers_from l i (count - i)) ≡ is_there (numbers_from l (i + 1) (count - (i + 1)))
-  field_good i count n h e = rw (numbers_first i count h, e) (there_behind n (numbers_from l (i + 1) (count - (i + 1))))
+  pub field_good : (i count : ℕ) (o : code.Option ℕ) → i < count → as_option o ≡ number_in (field_at l i) → is_some o ≡ true → is_there (numbers_from l i (count - i)) ≡ is_there (numbers_from l (i + 1) (count - (i + 1)))
+  unfolding as_option
+  field_good i count (code.Some n) h e k = rw (numbers_first i count h, ← e) (there_behind n (numbers_from l (i + 1) (count - (i + 1))))
+  field_good i count code.None h e k = absurd (false≢true k)
 
   -- no field is left
   pub fields_passed : (i count : ℕ) → count ≤ i → is_there (numbers_from l i (count - i)) ≡ true

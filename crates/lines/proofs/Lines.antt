@@ -7,12 +7,15 @@ use Prim.Native.Nat.{ℕ, ◌-◌, ◌%◌, ◌≤◌, ◌<◌}
 use native.Mathlib.Omega.{arith}
 use borrow.Author.Tests.{leb-true, eqb-true, eqb-false, le-leb, lt-leb, eq-eqb, ne_eqb}
 use lib.Dec.{eqb}
+use Rattle.std.proofs.lemmas.Bool.Decides.{nat_tests}
 use lib.ListN.{length}
 use Rattle.model.specs.Lists.{store}
 use Rattle.model.proofs.Lists.{store_nil}
 use Rattle.lines.specs.Script.{operation_in, numbers_from, in_columns, field_count, takes, ScriptLine, call, bad, called, line_of, numbers_of}
-use Rattle.lines.specs.declared.read.Line.TheVariants as line
-use Rattle.lines.specs.Reading.{line_answer, is_there, values_from}
+use Rattle.std.specs.Prelude as code
+use Rattle.lines.specs.declared.read.Call.{Call}
+use Rattle.lines.specs.declared.read.Operation.{Operation}
+use Rattle.lines.specs.Reading.{number_of_operation, operation_of, call_with, line_answer, is_there, values_from}
 use Rattle.lines.proofs.Fields.{not_there, numbers-values, length-values}
 
 -- without an operation a line is bad
@@ -77,11 +80,6 @@ module _ (l : List ℕ) where
       pub is_call : (op : ℕ) → operation_in l ≡ some op → takes op (field_count l) ≡ true → is_there (numbers_from l 0 (field_count l)) ≡ true → line_of l ≡ call op (values_from l 0 (field_count l))
       is_call op o k n = decided op true o n k
 
--- another operation takes none
-pub takes_other : (op n : ℕ) → (op ≡ 1 → ⊥) → (op ≡ 2 → ⊥) → (op ≡ 3 → ⊥) → (op ≡ 4 → ⊥) → (op ≡ 5 → ⊥) → (op ≡ 6 → ⊥) → takes op n ≡ false
-unfolding takes
-takes_other op n a b c d e f = rw (ne_eqb op 1 a, ne_eqb op 2 b, ne_eqb op 3 c, ne_eqb op 4 d, ne_eqb op 5 e, ne_eqb op 6 f)
-
 -- an operation takes at most 64 numbers
 pub takes-few : (op n : ℕ) → takes op n ≡ true → n ≤ 64
 unfolding takes
@@ -117,36 +115,80 @@ long-bad l h = go (eqb ((length l - 2) % 8) 0) refl
     go true e = decide (operation_in l) refl (eqb-true _ _ e)
     go false e = part_field l (omega arith) (eqb-false _ _ e)
 
+-- a number that is an operation's
+pub operation-number : (n : ℕ) (o : Operation) → code.Some o ≡ operation_of n → n ≡ number_of_operation o
+unfolding operation_of number_of_operation
+operation-number n o e = grind (arith, nat_tests)
+
+-- any other
+pub no_operation-takes : (n count : ℕ) → code.None ≡ operation_of n → takes n count ≡ false
+unfolding operation_of takes
+no_operation-takes n count e = grind (arith, nat_tests)
+
 -- what a reading answers and stores
 module _ (l s : List ℕ) where
   -- a bad line stores nothing
-  pub bad-read : line_of l ≡ bad → (line.Bad ≡ line_answer (line_of l)) × (s ≡ store s 0 (numbers_of (line_of l)))
+  pub bad-read : line_of l ≡ bad → (code.None ≡ line_answer (line_of l)) × (s ≡ store s 0 (numbers_of (line_of l)))
   unfolding line_answer numbers_of
   bad-read e = rw e (refl, sym (store_nil s 0))
 
   -- a call stores its numbers
-  pub call-read : (op count : ℕ) (t vs : List ℕ) → line_of l ≡ call op vs → t ≡ store s 0 vs → length vs ≡ count → (line.Call op count ≡ line_answer (line_of l)) × (t ≡ store s 0 (numbers_of (line_of l)))
-  unfolding line_answer numbers_of
-  call-read op count t vs e d k = rw e (ap (line.Call op) (sym k), d)
+  pub call-read : (op count : ℕ) (o : Operation) (t vs : List ℕ) → line_of l ≡ call op vs → code.Some o ≡ operation_of op → t ≡ store s 0 vs → length vs ≡ count
+      → (code.Some (record { operation = o; count = count }) ≡ line_answer (line_of l)) × (t ≡ store s 0 (numbers_of (line_of l)))
+  unfolding line_answer call_with numbers_of
+  call-read op count o t vs e n d k = rw e (rw (← n, k) (refl, d))
 
--- a call that is answered has at most 64 numbers
-module _ (op count : ℕ) where
-  few-taken : (op' : ℕ) (ns : List ℕ) (t : Bool) → takes op' (length ns) ≡ t → line.Call op count ≡ line_answer (elim t [ true ↦ call op' ns | false ↦ bad ]) → count ≤ 64
-  unfolding line_answer
-  few-taken op' ns true h e = let k : count ≡ length ns = cc in omega (arith, takes-few op' (length ns) h)
-  few-taken op' ns false h e = let z : ◌≡◌ {A = ℕ} 0 1 = cc in absurd (omega arith)
+-- a call that is answered: the line has its operation's number, and as many numbers
+call-answered : (m : ScriptLine) (a : Call) → code.Some a ≡ line_answer m → (m ≡ call (number_of_operation a.operation) (numbers_of m)) × (a.count ≡ length (numbers_of m))
+unfolding line_answer call_with numbers_of
+call-answered bad a e = let z : ◌≡◌ {A = ℕ} 0 1 = cc in absurd (omega arith)
+call-answered (call op ns) a e = go (operation_of op) refl e
+  where
+    go : (o : code.Option Operation) → o ≡ operation_of op → code.Some a ≡ call_with (length ns) o → (call op ns ≡ call (number_of_operation a.operation) ns) × (a.count ≡ length ns)
+    go (code.Some o) n e =
+        let k : a ≡ record { operation = o; count = length ns } = cc in
+        rw k (ap (λ (m : ℕ). call m ns) (operation-number op o n), refl)
+    go code.None n e = let z : ◌≡◌ {A = ℕ} 0 1 = cc in absurd (omega arith)
 
-  few-called : (o : Option ℕ) (p : Option (List ℕ)) → line.Call op count ≡ line_answer (called o p) → count ≤ 64
-  unfolding line_answer called
-  few-called (some op') (some ns) e = few-taken op' ns (takes op' (length ns)) refl e
-  few-called (some op') none e = let z : ◌≡◌ {A = ℕ} 0 1 = cc in absurd (omega arith)
-  few-called none p e = let z : ◌≡◌ {A = ℕ} 0 1 = cc in absurd (omega arith)
+-- a call's operation takes as many numbers as it has
+called-takes : (o : Option ℕ) (p : Option (List ℕ)) (op : ℕ) (ns : List ℕ) → called o p ≡ call op ns → takes op (length ns) ≡ true
+unfolding called
+called-takes (some op') (some ns') op ns e = go (takes op' (length ns')) refl e
+  where
+    go : (t : Bool) → takes op' (length ns') ≡ t → elim t [ true ↦ call op' ns' | false ↦ bad ] ≡ call op ns → takes op (length ns) ≡ true
+    go true h e = let p : op' ≡ op = cc in let q : ns' ≡ ns = cc in rw (← p, ← q) h
+    go false h e = let z : ◌≡◌ {A = ℕ} 0 1 = cc in absurd (omega arith)
+called-takes (some op') none op ns e = let z : ◌≡◌ {A = ℕ} 0 1 = cc in absurd (omega arith)
+called-takes none p op ns e = let z : ◌≡◌ {A = ℕ} 0 1 = cc in absurd (omega arith)
 
-  few-inside : (t : Bool) (m : ScriptLine) → (line.Call op count ≡ line_answer m → count ≤ 64) → line.Call op count ≡ line_answer (elim t [ true ↦ m | false ↦ bad ]) → count ≤ 64
-  unfolding line_answer
-  few-inside true m f e = f e
-  few-inside false m f e = let z : ◌≡◌ {A = ℕ} 0 1 = cc in absurd (omega arith)
+pub call-takes : (l : List ℕ) (op : ℕ) (ns : List ℕ) → line_of l ≡ call op ns → takes op (length ns) ≡ true
+unfolding line_of
+call-takes l op ns e = go (in_columns l) e
+  where
+    go : (t : Bool) → elim t [ true ↦ called (operation_in l) (numbers_from l 0 (field_count l)) | false ↦ bad ] ≡ call op ns → takes op (length ns) ≡ true
+    go true e = called-takes (operation_in l) (numbers_from l 0 (field_count l)) op ns e
+    go false e = let z : ◌≡◌ {A = ℕ} 0 1 = cc in absurd (omega arith)
 
-  pub few-numbers : (l : List ℕ) → line.Call op count ≡ line_answer (line_of l) → count ≤ 64
-  unfolding line_of
-  few-numbers l e = few-inside (in_columns l) (called (operation_in l) (numbers_from l 0 (field_count l))) (few-called (operation_in l) (numbers_from l 0 (field_count l))) e
+-- a line without an answer is bad
+pub no_answer : (l : List ℕ) → code.None ≡ line_answer (line_of l) → line_of l ≡ bad
+unfolding line_answer call_with
+no_answer l e = go (line_of l) refl e
+  where
+    other : (op : ℕ) (ns : List ℕ) (o : code.Option Operation) → takes op (length ns) ≡ true → o ≡ operation_of op → code.None ≡ call_with (length ns) o → call op ns ≡ bad
+    other op ns (code.Some o) t n e = let z : ◌≡◌ {A = ℕ} 0 1 = cc in absurd (omega arith)
+    other op ns code.None t n e = absurd (false≢true (sym (no_operation-takes op (length ns) n) ∙ t))
+
+    go : (m : ScriptLine) → line_of l ≡ m → code.None ≡ line_answer m → line_of l ≡ bad
+    go bad k e = k
+    go (call op ns) k e = k ∙ other op ns (operation_of op) (call-takes l op ns k) refl e
+
+-- What a line with an answer is: a call of that operation, with as many numbers, of which there are few.
+pub record Answered (l : List ℕ) (a : Call) : Type 0 where
+  pub is_call : line_of l ≡ call (number_of_operation a.operation) (numbers_of (line_of l))
+  pub count : a.count ≡ length (numbers_of (line_of l))
+  pub few : a.count ≤ 64
+
+pub answered : (l : List ℕ) (a : Call) → code.Some a ≡ line_answer (line_of l) → Answered l a
+answered l a e =
+    let k = call-answered (line_of l) a e in
+    record { is_call = k.0; count = k.1; few = omega (arith, takes-few _ _ (call-takes l _ _ k.0), k.1) }

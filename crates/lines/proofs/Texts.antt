@@ -2,38 +2,32 @@
 use mathlib.Core.Path.{◌≡◌, refl, sym, ap, ◌∙◌}
 use mathlib.Core.List.{List, [], ◌∷◌, ◌++◌}
 use mathlib.Core.Bool.{Bool, true, false}
-use Prim.Native.Nat.{ℕ, suc, ◌+◌, ◌-◌, ◌≤◌, ◌<◌}
+use Prim.Native.Nat.{ℕ, zero, suc, ◌+◌, ◌-◌, ◌≤◌}
 use native.Mathlib.Omega.{arith}
 use native.Mathlib.Numerals.{add-one}
-use lib.ListN.{length, get_or, set, drop, replicate, length-append, length-replicate}
-use lib.Seq.{drop-cons}
+use lib.ListN.{length, set, take, drop, replicate, length-append, length-replicate}
+use Rattle.std.proofs.lemmas.List.{take-append-drop}
+use borrow.Rule.Slice.PartMut.{put_mid}
 use Rattle.model.specs.Lists.{store}
-use Rattle.model.proofs.Lists.{length-store, store_nil, store_first}
+use Rattle.model.proofs.Lists.{length-store, store_nil}
 use Rattle.octets.proofs.Stores.{store_one, store_then}
 use Rattle.lines.specs.Printed.{signed, right, Laid}
 
--- one more character is stored
-store_more : (s : List ℕ) (p v : ℕ) (vs : List ℕ) → store (set s p v) (p + 1) vs ≡ store s p (v ∷ vs)
-store_more s p v vs = rw (add-one p) (sym (store_first s p v vs))
+-- what is stored inside a list takes the place of that part
+store_inside : (s : List ℕ) (p : ℕ) (vs : List ℕ) → p + length vs ≤ length s → store s p vs ≡ take p s ++ (vs ++ drop (length vs) (drop p s))
+unfolding store
+store_inside s p [] h = store_nil s p ∙ sym (take-append-drop p s)
+store_inside [] p (v ∷ vs) h = absurd (omega arith)
+store_inside (x ∷ s) zero (v ∷ vs) h = ap (λ (l : List ℕ). v ∷ l) (store_inside s zero vs (omega arith))
+store_inside (x ∷ s) (suc p) (v ∷ vs) h = ap (λ (l : List ℕ). x ∷ l) (store_inside s p (v ∷ vs) (omega arith))
 
--- character i of a text is stored: those behind it are left
-pub text_turn : (s : List ℕ) (p : ℕ) (text : List ℕ) (i : ℕ) → i < length text
-    → store (set s (p + i) (get_or text i 0)) (p + (i + 1)) (drop (i + 1) text) ≡ store s (p + i) (drop i text)
-text_turn s p text i h =
-    let e : p + (i + 1) ≡ p + i + 1 = omega arith in
-    rw (drop-cons text i 0 h, ← add-one i, e) (store_more s (p + i) (get_or text i 0) (drop (i + 1) text))
-
--- a blank is stored: one fewer is left
-pub blank_turn : (s : List ℕ) (p width k : ℕ) → k < width → store (set s p 32) (p + 1) (replicate (width - (k + 1)) 32) ≡ store s p (replicate (width - k) 32)
-blank_turn s p width k h =
-    let e : width - k ≡ suc (width - (k + 1)) = omega arith in
-    rw e (store_more s p 32 (replicate (width - (k + 1)) 32))
+-- a part is written over by a text
+pub laid_part : (s ys text : List ℕ) (p n : ℕ) → ys ≡ text → n ≡ length text → p + n ≤ length s → Laid s (put_mid p (p + n - p) s ys) p (p + n) text
+laid_part s ys text p n e k h =
+    let m : p + n - p ≡ length text = omega arith in
+    record { stored = rw (e, m) (sym (store_inside s p text (omega arith))); next = omega arith; inside = h }
 
 module _ {s t : List ℕ} {p q : ℕ} where
-  -- a whole text is stored, where nothing of it is left
-  pub laid_all : (text rest : List ℕ) → rest ≡ [] → store t q rest ≡ store s p text → q ≡ p + length text → q ≤ length s → Laid s t p q text
-  laid_all text rest none e n i = record { stored = sym (store_nil t q) ∙ sym (ap (λ (l : List ℕ). store t q l) none) ∙ e; next = n; inside = i }
-
   -- one text, and another behind it
   pub laid_then : {u : List ℕ} {r : ℕ} {x y : List ℕ} → Laid s t p q x → Laid t u q r y → Laid s u p r (x ++ y)
   laid_then {x = x} {y = y} a b =

@@ -1,21 +1,46 @@
--- What the code's values stand for: the enums as what they answer, and the numbers that are stored. Assumes nothing.
-use Rattle.std.specs.Prelude.{List, [], ◌∷◌, Bool, true, false, ℕ, zero, suc, length}
+-- What the code's values stand for: an operation's number, what reading a line answers, and the numbers that are stored. Assumes nothing.
+use Rattle.std.specs.Prelude.{List, [], ◌∷◌, Bool, true, false, not, cond, ℕ, zero, suc, eqb, length}
+use Rattle.std.specs.Prelude as code
 use Rattle.std.proofs.Math.Option.{Option, none, some}
 use Rattle.lines.specs.Script.{number_in, field_at, ScriptLine, call, bad}
-use Rattle.lines.specs.declared.read.Line.{Line}
-use Rattle.lines.specs.declared.read.Line.TheVariants as line
-use Rattle.lines.specs.declared.read.Field.{Field}
-use Rattle.lines.specs.declared.read.Field.TheVariants as field
+use Rattle.lines.specs.declared.read.Call.{Call}
+use Rattle.lines.specs.declared.read.Operation.{Operation}
+use Rattle.lines.specs.declared.read.Operation.TheVariants.{Format, Flush, LookUp, Collect, Compact, List as ListGroup}
 
--- what reading a line answers: the operation and how many numbers it has, or that the line is bad
-unfoldable pub line_answer : ScriptLine → Line
-line_answer (call op ns) = line.Call op (length ns)
-line_answer bad = line.Bad
+-- "(1 format, 2 flush, 3 lookup, 4 collection, 5 compaction, 6 list)"
+unfoldable pub number_of_operation : Operation → ℕ
+number_of_operation Format = 1
+number_of_operation Flush = 2
+number_of_operation LookUp = 3
+number_of_operation Collect = 4
+number_of_operation Compact = 5
+number_of_operation ListGroup = 6
 
--- the number of a field, if it holds one
-unfoldable pub field_read : Field → Option ℕ
-field_read (field.Number n) = some n
-field_read field.Bad = none
+-- the operation of a number, if it is one's
+unfoldable pub operation_of : ℕ → code.Option Operation
+operation_of n =
+    cond (eqb n 1) (code.Some Format)
+    (cond (eqb n 2) (code.Some Flush)
+    (cond (eqb n 3) (code.Some LookUp)
+    (cond (eqb n 4) (code.Some Collect)
+    (cond (eqb n 5) (code.Some Compact)
+    (cond (eqb n 6) (code.Some ListGroup)
+    code.None)))))
+
+-- an operation with a count of numbers
+unfoldable pub call_with : ℕ → code.Option Operation → code.Option Call
+call_with count (code.Some o) = code.Some (record { operation = o; count = count })
+call_with count code.None = code.None
+
+-- what reading a line answers: the operation and how many numbers it has; none for a bad line
+unfoldable pub line_answer : ScriptLine → code.Option Call
+unfolding operation_of call_with
+line_answer (call op ns) = call_with (length ns) (operation_of op)
+line_answer bad = code.None
+
+-- a character that is no blank
+abbrev pub other : ℕ → Bool
+other c = not (eqb c 32)
 
 -- something is there
 unfoldable pub is_there : {A : Type 0} → Option A → Bool

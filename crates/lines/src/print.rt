@@ -9,12 +9,9 @@ fn put_text(out: &mut [u8], at: usize, text: &[u8]) -> usize
     requires { at + length text.now ≤ length out.old }
     ensures { Laid out.old out.new at result text.now }
 {
-    let mut i = 0;
-    while i < text.len() {
-        out[at + i] = text[i];
-        i += 1;
-    }
-    at + i
+    let end = at + text.len();
+    out[at..end].copy_from_slice(text);
+    end
 }
 
 // Lays one character out.
@@ -31,14 +28,9 @@ fn put_blanks(out: &mut [u8], at: usize, width: usize, used: usize) -> usize
     requires { at + (width - used) ≤ length out.old }
     ensures { Laid out.old out.new at result (replicate (width - used) 32) }
 {
-    let mut i = at;
-    let mut k = used;
-    while k < width {
-        out[i] = b' ';
-        i += 1;
-        k += 1;
-    }
-    i
+    let end = at + width.saturating_sub(used);
+    out[at..end].fill(b' ');
+    end
 }
 
 // Lays digits out right-justified, with a minus sign in front of the first or without.
@@ -49,10 +41,11 @@ fn put_digits(out: &mut [u8], at: usize, width: usize, negative: bool, digits: &
     if negative {
         let p = put_blanks(out, at, width, digits.len() + 1);
         let q = put_byte(out, p, b'-');
-        return put_text(out, q, digits);
+        put_text(out, q, digits)
+    } else {
+        let p = put_blanks(out, at, width, digits.len());
+        put_text(out, p, digits)
     }
-    let p = put_blanks(out, at, width, digits.len());
-    put_text(out, p, digits)
 }
 
 // Lays n out in decimal, right-justified, with a minus sign or without.
@@ -61,7 +54,7 @@ fn put_number(out: &mut [u8], at: usize, width: usize, negative: bool, n: u32) -
     ensures { Laid out.old out.new at result (right width (signed negative (decimal n))) × (result ≤ at + 11) }
 {
     let mut text = [0u8; 20];
-    let k = io::decimal(n as u64, &mut text);
+    let k = io::decimal(u64::from(n), &mut text);
     put_digits(out, at, width, negative, &text[..k])
 }
 
@@ -70,11 +63,7 @@ fn put_integer(out: &mut [u8], at: usize, width: usize, z: i32) -> usize
     requires { (width ≤ 11) × (at + 11 ≤ length out.old) }
     ensures { Laid out.old out.new at result (right width (integer z)) × (result ≤ at + 11) }
 {
-    if z >= 0 {
-        return put_number(out, at, width, false, z as u32);
-    }
-    let n = (-1 - z) as u32 + 1;
-    put_number(out, at, width, true, n)
+    put_number(out, at, width, z < 0, z.unsigned_abs())
 }
 
 // A record's line, of at most 56 characters.

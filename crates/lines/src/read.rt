@@ -1,88 +1,96 @@
 // Which call a line of a script is.
-ghost use Rattle.std.specs.Prelude.{◌≡◌, ◌+◌, ◌*◌, ◌≤◌, ◌<◌, length, get_or, drop};
+ghost use Rattle.std.specs.Prelude.{◌≡◌, ◌+◌, ◌*◌, ◌≤◌, length, position};
 ghost use Rattle.model.specs.Lists.{store};
-ghost use Rattle.lines.specs.Script.{digits_from, number_in, operation_in, field_at, numbers_from, line_of, numbers_of};
+ghost use Rattle.model.specs.Options.{as_option};
+ghost use Rattle.lines.specs.Script.{digits_from, number_in, field_at, numbers_from, line_of, numbers_of};
 ghost use Rattle.lines.specs.Script.{takes as takes_numbers};
-ghost use Rattle.lines.specs.Reading.{line_answer, field_read, is_there, value_of, values_from};
+ghost use Rattle.lines.specs.Reading.{number_of_operation, operation_of, line_answer, other, is_there, values_from};
 
-// An operation and how many numbers it has, or a bad line.
-#[derive(Clone, Copy)]
-pub enum Line {
-    Call(u32, usize),
-    Bad,
+// What a line asks for.
+#[derive(Clone, Copy, PartialEq, Eq)]
+pub enum Operation {
+    Format,
+    Flush,
+    LookUp,
+    Collect,
+    Compact,
+    List,
 }
 
-// What a field holds.
-#[derive(Clone, Copy)]
-pub enum Field {
-    Number(u32),
-    Bad,
-}
-
-// How many blanks stand in front.
-fn blanks(field: &[u8]) -> usize
-    ensures { (result ≤ length field.now) × (number_in field.now ≡ number_in (drop result field.now))
-        × (result < length field.now → get_or field.now result 0 ≡ 32 → ⊥) }
-{
-    let mut i = 0;
-    while i < field.len() {
-        if field[i] != b' ' {
-            return i;
+impl Operation {
+    // The operation of that number.
+    fn from_number(n: u32) -> Option<Operation>
+        ensures { result ≡ operation_of n }
+    {
+        match n {
+            1 => Some(Operation::Format),
+            2 => Some(Operation::Flush),
+            3 => Some(Operation::LookUp),
+            4 => Some(Operation::Collect),
+            5 => Some(Operation::Compact),
+            6 => Some(Operation::List),
+            _ => None,
         }
-        i += 1;
     }
-    i
+
+    // Whether it takes that many numbers.
+    fn takes(self, count: usize) -> bool
+        ensures { result ≡ takes_numbers (number_of_operation self) count }
+    {
+        match self {
+            Operation::Format => count == 4,
+            Operation::Flush => count <= 64,
+            Operation::Collect => count == 0,
+            Operation::LookUp | Operation::Compact | Operation::List => count == 1,
+        }
+    }
 }
 
-// The number whose digits stand from place `from` on.
-fn digits(field: &[u8], from: usize) -> Field
-    requires { (from ≤ length field.now) × (length field.now ≤ 9) }
-    ensures { field_read result ≡ digits_from 0 (drop from field.now) }
+// An operation and how many numbers it has.
+#[derive(Clone, Copy, PartialEq, Eq)]
+pub struct Call {
+    pub operation: Operation,
+    pub count: usize,
+}
+
+// The number of these digits.
+fn digits(text: &[u8]) -> Option<u32>
+    requires { length text.now ≤ 9 }
+    ensures { as_option result ≡ digits_from 0 text.now }
 {
     let mut v: u32 = 0;
-    let mut i = from;
-    while i < field.len() {
-        let c = field[i];
-        if c < 48 {
-            return Field::Bad;
+    for c in text {
+        if !c.is_ascii_digit() {
+            return None;
         }
-        if c > 57 {
-            return Field::Bad;
-        }
-        v = 10 * v + (c - 48) as u32;
-        i += 1;
+        v = 10 * v + u32::from(*c - b'0');
     }
-    Field::Number(v)
+    Some(v)
+}
+
+// Where the first character stands that is no blank.
+fn behind_blanks(field: &[u8]) -> Option<usize>
+    ensures { result ≡ position other field.now }
+{
+    field.iter().position(|c| *c != b' ')
 }
 
 // The number that is right-justified in a field.
-fn number(field: &[u8]) -> Field
+fn number(field: &[u8]) -> Option<u32>
     requires { length field.now ≤ 9 }
-    ensures { field_read result ≡ number_in field.now }
+    ensures { as_option result ≡ number_in field.now }
 {
-    let i = blanks(field);
-    if field.len() <= i {
-        return Field::Bad;
-    }
-    digits(field, i)
-}
-
-// The operation number in the first 2 columns.
-fn operation(line: &[u8]) -> Field
-    requires { 2 ≤ length line.now }
-    ensures { field_read result ≡ operation_in line.now }
-{
-    number(&line[..2])
+    let i = behind_blanks(field)?;
+    digits(&field[i..])
 }
 
 // Number i of the line.
-fn number_at(line: &[u8], i: usize) -> Field
+fn number_at(line: &[u8], i: usize) -> Option<u32>
     requires { 10 + 8 * i ≤ length line.now }
-    ensures { field_read result ≡ number_in (field_at line.now i) }
+    ensures { as_option result ≡ number_in (field_at line.now i) }
 {
     let a = 2 + 8 * i;
-    let e = a + 8;
-    number(&line[a..e])
+    number(&line[a..a + 8])
 }
 
 // Whether each of the first `count` fields holds a number.
@@ -90,79 +98,38 @@ fn all_numbers(line: &[u8], count: usize) -> bool
     requires { 2 + 8 * count ≤ length line.now }
     ensures { result ≡ is_there (numbers_from line.now 0 count) }
 {
-    let mut i = 0;
-    while i < count {
-        let field = number_at(line, i);
-        if let Field::Bad = field {
+    for i in 0..count {
+        if number_at(line, i).is_none() {
             return false;
         }
-        i += 1;
     }
     true
 }
 
-// The value of number i, 0 where its field holds none.
-fn value_at(line: &[u8], i: usize) -> u32
-    requires { 10 + 8 * i ≤ length line.now }
-    ensures { result ≡ value_of (number_in (field_at line.now i)) }
-{
-    let field = number_at(line, i);
-    match field {
-        Field::Number(n) => n,
-        Field::Bad => 0,
-    }
-}
-
-// Stores the values of the first `count` fields.
+// Stores the values of the first `count` fields, 0 where a field holds none.
 fn fill(line: &[u8], count: usize, numbers: &mut [u32])
     requires { (2 + 8 * count ≤ length line.now) × (count ≤ length numbers.old) }
     ensures { numbers.new ≡ store numbers.old 0 (values_from line.now 0 count) }
 {
-    let mut i = 0;
-    while i < count {
-        let n = value_at(line, i);
-        numbers[i] = n;
-        i += 1;
+    for i in 0..count {
+        numbers[i] = number_at(line, i).unwrap_or(0);
     }
 }
 
-// Whether the operation takes that many numbers.
-fn takes(op: u32, count: usize) -> bool
-    ensures { result ≡ takes_numbers op count }
-{
-    match op {
-        1 => count == 4,
-        2 => count <= 64,
-        3 => count == 1,
-        4 => count == 0,
-        5 => count == 1,
-        6 => count == 1,
-        _ => false,
-    }
-}
-
-// Which call the line is; its numbers are stored at the start of the slice. A bad line stores none.
-pub fn read(line: &[u8], numbers: &mut [u32]) -> Line
+// Which call the line is; its numbers are stored at the start of the slice. A bad line is none, and stores none.
+pub fn read(line: &[u8], numbers: &mut [u32]) -> Option<Call>
     requires { 64 ≤ length numbers.old }
     ensures { (result ≡ line_answer (line_of line.now))
         × (numbers.new ≡ store numbers.old 0 (numbers_of (line_of line.now))) }
 {
-    if line.len() < 2 {
-        return Line::Bad;
-    }
-    if (line.len() - 2) % 8 != 0 {
-        return Line::Bad;
+    if line.len() < 2 || (line.len() - 2) % 8 != 0 {
+        return None;
     }
     let count = (line.len() - 2) / 8;
-    let Field::Number(op) = operation(line) else {
-        return Line::Bad;
-    };
-    if !takes(op, count) {
-        return Line::Bad;
-    }
-    if !all_numbers(line, count) {
-        return Line::Bad;
+    let operation = Operation::from_number(number(&line[..2])?)?;
+    if !operation.takes(count) || !all_numbers(line, count) {
+        return None;
     }
     fill(line, count, numbers);
-    Line::Call(op, count)
+    Some(Call { operation, count })
 }

@@ -11,12 +11,10 @@ use Rattle.octets.specs.Little.{le16, le32}
 use Rattle.front.specs.Reading.{numbers_at}
 use Rattle.state.specs.Reading.{read_state}
 use Rattle.model.specs.Sound.{is_empty}
-use Rattle.listing.specs.declared.session.Turn.{Turn}
-use Rattle.listing.specs.declared.session.Cursor.{Cursor}
 use Rattle.listing.specs.Sizes.{line_room, state_room, spare_room, reply_room}
 use Rattle.listing.specs.Session.{reply_to, newline}
-use Rattle.listing.specs.Memory.{in_use, Replied}
-use Rattle.listing.specs.Progress.{Progress, longer, took, took_prints, ending, progress, Going, Stepped}
+use Rattle.listing.specs.Memory.{Turn, in_use, Replied}
+use Rattle.listing.specs.Progress.{Cursor, Progress, longer, took, took_prints, ending, progress, Going, Stepped}
 use Rattle.listing.proofs.Replies.{laid_nothing, replied_as, replied_same}
 
 -- a newline ends the line

@@ -1,5 +1,5 @@
 -- A listing's bytes, read back record by record, are the lines that document 01 prints. Assumes nothing.
-use mathlib.Core.Path.{◌≡◌, refl, sym, ap, subst, ◌∙◌}
+use mathlib.Core.Path.{◌≡◌, refl, sym, ap, ◌∙◌}
 use mathlib.Core.List.{List, [], ◌∷◌, ◌++◌, flatten, append_assoc, append-nil}
 use mathlib.Core.Option.{Option, none as nothing, some}
 use mathlib.Core.Bool.{Bool, true, false, ◌&&◌, false≢true}
@@ -27,17 +27,16 @@ use Rattle.record.specs.Read.{bare}
 use Rattle.record.specs.Coding.{record_at, eight, InEight}
 use Rattle.record.proofs.Words.{kind_even, kind_odd}
 use Rattle.record.proofs.Coding.{record_same, decode-encode}
-use Rattle.calls.specs.Refusals.{Refusal, bad_numbers, bad_length, not_sound, out_of_range, bad_batch, no_free_block, not_named, nothing_to_gain, refusal_number, first_refusal}
-use Rattle.calls.specs.Outcome.{Lent, Answer, listed, refused, number, Outcome, outcome, unless}
+use Rattle.calls.specs.Refusals.{Refusal, refusal_number, first_refusal}
+use Rattle.calls.specs.Outcome.{Lent, listed, number, Outcome, outcome, unless}
 use Rattle.calls.specs.Compaction.{compact_checks, compact_done}
 use Rattle.calls.specs.Listing.{record_bytes, level_bytes, group_bytes, listing_length, list_checks, list_done}
 use Rattle.calls.specs.History.{Call, compact_call, list_call, lend, lent_to, checks_of, effect, run}
 use Rattle.calls.specs.Bounds.{Bounded}
 use Rattle.calls.proofs.Decided.{Decided, refuses, accepts, decided}
 use Rattle.calls.proofs.Refusing.{right-length, clears}
-use Rattle.answers.specs.declared.Listed.{Listed}
-use Rattle.answers.specs.declared.Listed.TheVariants as code
-use Rattle.answers.specs.Answers.{refusal_of, list_answer}
+use Rattle.answers.specs.Answers.{refusal_of, answer_by, list_answer}
+use Rattle.std.specs.Prelude.{Ok, Err}
 use Rattle.state.specs.Reading.{read_state}
 use Rattle.state.specs.Ran.{Slices, listing_slices, Ran}
 use Rattle.state.proofs.Bounds.{ran_bounded}
@@ -46,6 +45,7 @@ use Rattle.lines.proofs.Texts.{laid_as, laid_then}
 use Rattle.listing.specs.Session.{level_lines, group_lines, list_print}
 use Rattle.listing.specs.Listing.{lines_in}
 use Rattle.listing.proofs.Each.{Each, none, more}
+use Rattle.listing.proofs.Parts.{refusal-numbered}
 use Rattle.listing.proofs.Replies.{laid_nothing}
 use Rattle.listing.proofs.Signed.{Signed, signed-state}
 
@@ -166,18 +166,6 @@ stored_lines N k g out s f e =
     ap (lines_in (length (flatten g))) (sym (replaced 0 out (group_bytes 0 g) long))
     ∙ group_lines_lem 0 g _ (omega (arith, few-levels g p.filled)) (fitting N k (flatten g) p.records f)
 
--- a refusal has a number from 1 on
-refusal-numbered : (r : Refusal) → refusal_number r ≡ 0 → ⊥
-unfolding refusal_number
-refusal-numbered bad_numbers e = omega arith
-refusal-numbered bad_length e = omega arith
-refusal-numbered not_sound e = omega arith
-refusal-numbered out_of_range e = omega arith
-refusal-numbered bad_batch e = omega arith
-refusal-numbered no_free_block e = omega arith
-refusal-numbered not_named e = omega arith
-refusal-numbered nothing_to_gain e = omega arith
-
 -- the call that lists, on a state and a buffer of the right length
 module _ (s : State) (spare : List ℕ) (k : ℕ) (out : List ℕ) (fits : length out ≡ listing_length) where
   -- "refuses as compaction"
@@ -220,26 +208,24 @@ module _ (state spare : List ℕ) (k : ℕ) (out out' : List ℕ) (fits : length
   print = list_print (number (run (compact_call k) (read_state state) spare).answer) (group_at (read_state state) k)
 
   -- a group that is listed
-  pub listed-print : (a : Listed) (n : ℕ) → a ≡ code.Done n → Ran (list_call k out) state spare (list_answer a) (listing_slices state spare out') → head_line ++ lines_in n out' ≡ print
-  unfolding list_print number list_answer
-  listed-print a n d ran =
-      let r : Ran (list_call k out) state spare (listed n) (listing_slices state spare out') = rw d at ran in
-      let w = written (read_state state) spare k out fits n _ r.answered r.leaves in
-      let e : number (run (compact_call k) (read_state state) spare).answer ≡ 0 = sym (number_same (read_state state) spare k out fits) ∙ sym (ap number r.answered) in
+  pub listed-print : (n : ℕ) → Ran (list_call k out) state spare (list_answer (Ok n)) (listing_slices state spare out') → head_line ++ lines_in n out' ≡ print
+  unfolding list_print number answer_by
+  listed-print n ran =
+      let w = written (read_state state) spare k out fits n _ ran.answered ran.leaves in
+      let e : number (run (compact_call k) (read_state state) spare).answer ≡ 0 = sym (number_same (read_state state) spare k out fits) ∙ sym (ap number ran.answered) in
       ap (λ (l : List ℕ). head_line ++ l)
       (rw (w.count, w.bytes) (stored_lines (read_state state).device.N k (group_at (read_state state) k) out w.sound (signed-state state k) fits))
       ∙ sym (ap (λ (m : ℕ). list_print m (group_at (read_state state) k)) e)
 
   -- a refusal
-  pub refused-print : (a : Listed) (q : _) → a ≡ code.Refused q → Ran (list_call k out) state spare (list_answer a) (listing_slices state spare out') → refused_line (refusal_number (refusal_of q)) ≡ print
-  unfolding list_print number list_answer
-  refused-print a q d there =
+  pub refused-print : (q : _) → Ran (list_call k out) state spare (list_answer (Err q)) (listing_slices state spare out') → refused_line (refusal_number (refusal_of q)) ≡ print
+  unfolding list_print number answer_by
+  refused-print q ran =
       let r : Refusal = refusal_of q in
-      let ran : Ran (list_call k out) state spare (refused r) (listing_slices state spare out') = rw d at there in
       let e : number (run (compact_call k) (read_state state) spare).answer ≡ refusal_number r = sym (number_same (read_state state) spare k out fits) ∙ sym (ap number ran.answered) in
       sym (ap (λ (m : ℕ). list_print m (group_at (read_state state) k)) e ∙ rw (ne_eqb (refusal_number r) 0 (refusal-numbered r), list_print))
 
 -- a listing has at most 512 records
-pub few-records : {c : Call} {state spare : List ℕ} {left : Slices} (r : Listed) (n : ℕ) → Ran c state spare (list_answer r) left → r ≡ code.Done n → n ≤ 512
-unfolding Bounded list_answer
-few-records r n ran e = subst (λ (a : Answer). Bounded a) (ap list_answer e) (ran_bounded ran)
+pub few-records : {c : Call} {state spare : List ℕ} {left : Slices} (n : ℕ) → Ran c state spare (list_answer (Ok n)) left → n ≤ 512
+unfolding Bounded answer_by
+few-records n ran = ran_bounded ran

@@ -1,14 +1,17 @@
 -- A call on the parts in use: what it promises of the parts it promises of the memory. Assumes nothing.
-use mathlib.Core.Path.{◌≡◌, refl, sym, ap, ◌∙◌}
+use mathlib.Core.Path.{◌≡◌, refl, sym, ap, subst, ◌∙◌}
 use mathlib.Core.List.{List, [], ◌∷◌, ◌++◌}
 use mathlib.Core.Bool.{true}
 use Prim.Native.Nat.{ℕ, zero, suc, ◌≤◌}
 use native.Mathlib.Omega.{arith}
-use lib.ListN.{length, get_or, take, drop, replicate}
+use lib.ListN.{length, get_or, take, drop, replicate, length-append, length-drop}
 use lib.Seq.{length-take-le, take_at, drop_at}
-use borrow.Author.Tests.{eq-eqb, ne_eqb}
+use borrow.Author.Tests.{eq-eqb}
+use Rattle.std.specs.Prelude.{Some, Result, Err, ⊤}
 use Rattle.model.specs.Device.{Device, within_limits, state_length, spare_length}
 use Rattle.calls.specs.Outcome.{Lent, Answer, number, Outcome}
+use Rattle.calls.specs.Refusals as calls
+use Rattle.calls.specs.Refusals.{refusal_number}
 use Rattle.calls.specs.Format.{format_checks, format_done, blank_state}
 use Rattle.calls.specs.History.{Call, format_call, flush_call, lookup_call, collect_call, compact_call, lend, lent_to, checks_of, effect, run}
 use Rattle.calls.proofs.Decided.{unless-accepts}
@@ -16,9 +19,12 @@ use Rattle.calls.proofs.Refusing.{right-length, is_clear, numbered-refused}
 use Rattle.state.specs.Reading.{read_state}
 use Rattle.state.specs.Ran.{Slices, Ran}
 use Rattle.listing.specs.Session.{Session, takes_device, call_of, new_device}
-use Rattle.listing.specs.Memory.{in_use, held_by, Obeyed, Takes}
+use Rattle.answers.specs.declared.Refusal.{Refusal}
+use Rattle.answers.specs.declared.Looked.{Looked}
+use Rattle.answers.specs.declared.Looked.TheVariants.{Found, NotWritten}
+use Rattle.answers.specs.Answers.{refusal_of, answer_by, found_or_not}
+use Rattle.listing.specs.Memory.{in_use, held_by, refusal_in, Obeyed, Takes}
 use Rattle.listing.specs.declared.lent.Held.{Held}
-use Rattle.listing.specs.declared.lent.Taken.TheVariants as taken
 use Rattle.listing.proofs.Room.{Inside, taken-within, inside, room}
 use Rattle.listing.specs.Sizes.{spare_room, state_room}
 
@@ -57,7 +63,48 @@ obeyed {a = a} r e f g bytes entries =
       beyond = record { bytes = bytes; entries = entries };
     }
 
--- which call an operation is: 2, 3, 4, and 5 for what is left
+-- the same of the parts that the memory was split into
+pub obeyed_split : {c : Call} {s p n : ℕ} {state spare front back entries rest front' entries' : List ℕ} {a : Answer} {left : Slices}
+    → Ran c front entries a left → n ≡ number a → s ≤ length state → p ≤ length spare
+    → front ≡ take s state → back ≡ drop s state → entries ≡ take p spare → rest ≡ drop p spare
+    → front' ≡ left.state → entries' ≡ left.spare → length front' ≡ length front → length entries' ≡ length entries
+    → Obeyed c s p state spare n (front' ++ back) (entries' ++ rest)
+obeyed_split {s = s} {p = p} {state = state} {spare = spare} {front' = front'} {entries' = entries'} ran e hs hp f b en r fl el lf le =
+    rw (b, r)
+    (obeyed (rw (f, en) at ran) e
+    (front-back s state front' hs (lf ∙ ap length f) ∙ fl)
+    (front-back p spare entries' hp (le ∙ ap length en) ∙ el)
+    (rest_back s state front' hs (lf ∙ ap length f))
+    (rest_back p spare entries' hp (le ∙ ap length en)))
+
+-- a part that was split off and comes back leaves the length
+pub split-length : (s : ℕ) (state front back front' : List ℕ) → s ≤ length state → front ≡ take s state → back ≡ drop s state → length front' ≡ length front → length (front' ++ back) ≡ length state
+split-length s state front back front' h f b l = omega (arith, length-append front' back, ap length f, ap length b, length-take-le s state h, length-drop s state, l)
+
+-- a page that was looked up: the lookup is accepted
+pub found-numbered : (x : Looked) → number (found_or_not x) ≡ 0
+unfolding number found_or_not
+found-numbered (Found f) = refl
+found-numbered (NotWritten n) = refl
+
+-- a refusal that is passed on
+pub err-numbered : {A : Type 0} (f : A → Answer) (r x : Refusal) (b : Result ⊤ Refusal) → b ≡ Err x → x ≡ r → refusal_in b ≡ number (answer_by f (Err r))
+unfolding number answer_by refusal_in
+err-numbered f r x b e k = rw (e, k)
+
+-- a refusal has a number from 1 on
+pub refusal-numbered : (r : calls.Refusal) → refusal_number r ≡ 0 → ⊥
+unfolding refusal_number
+refusal-numbered calls.bad_numbers e = omega arith
+refusal-numbered calls.bad_length e = omega arith
+refusal-numbered calls.not_sound e = omega arith
+refusal-numbered calls.out_of_range e = omega arith
+refusal-numbered calls.bad_batch e = omega arith
+refusal-numbered calls.no_free_block e = omega arith
+refusal-numbered calls.not_named e = omega arith
+refusal-numbered calls.nothing_to_gain e = omega arith
+
+-- which call an operation is
 module _ (op : ℕ) (ns : List ℕ) (h : Held) (s : Session) (first : ℕ) where
   pub is_flush : h.pages ≡ s.state.device.B → op ≡ 2 → flush_call ns (replicate h.pages 0) ≡ call_of op ns s
   unfolding call_of
@@ -72,9 +119,9 @@ module _ (op : ℕ) (ns : List ℕ) (h : Held) (s : Session) (first : ℕ) where
   unfolding call_of
   is_collection b m e = rw (b, m, e)
 
-  pub is_compaction : first ≡ get_or ns 0 0 → (op ≡ 2 → ⊥) → (op ≡ 3 → ⊥) → (op ≡ 4 → ⊥) → compact_call first ≡ call_of op ns s
+  pub is_compaction : first ≡ get_or ns 0 0 → op ≡ 5 → compact_call first ≡ call_of op ns s
   unfolding call_of
-  is_compaction f a b c = rw (f, ne_eqb op 2 a, ne_eqb op 3 b, ne_eqb op 4 c)
+  is_compaction f e = rw (f, e)
 
 -- a format of the lengths that the device uses is accepted
 format_done_lem : (d : Device) (state spare : List ℕ) → within_limits d ≡ true → length state ≡ state_length d → length spare ≡ spare_length d
@@ -112,10 +159,20 @@ module _ (d : Device) (state spare : List ℕ) (t : takes_device d ≡ true) (lo
 -- what formatting it promises
 pub takes_device_lem : (d : Device) (s p n : ℕ) (state spare state' spare' : List ℕ) → takes_device d ≡ true → s ≡ state_length d → p ≡ spare_length d
     → length state ≡ state_room → length spare ≡ spare_room → length state' ≡ state_room → length spare' ≡ spare_room
-    → Obeyed (format_call d) s p state spare n state' spare' → Takes d state spare (taken.Device (record { state = s; spare = p; blocks = d.M; pages = d.B })) state' spare'
+    → Obeyed (format_call d) s p state spare n state' spare' → Takes d state spare (Some (record { state = s; spare = p; blocks = d.M; pages = d.B })) state' spare'
 unfolding new_device blank_state
 takes_device_lem d s p n state spare state' spare' t es ep long fits long' fits' o =
     let there : Obeyed (format_call d) (state_length d) (spare_length d) state spare n state' spare' = rw (es, ep) at o in
     let none : n ≡ 0 = no_number d state spare t long fits n state' spare' there in
     let numbers : (read_state (take (state_length d) state')).device ≡ d = ap (λ (x : Session). x.state.device) (new_device_lem d state spare t long fits n state' spare' there) in
     rw (es, ep) (t, refl, room d state' spare' t long' fits' numbers, rw none at there)
+
+-- the same of the device by other names for its numbers
+pub takes_as : {d e : Device} (h : Held) (state spare state' spare' : List ℕ) → d ≡ e → Takes d state spare (Some h) state' spare' → Takes e state spare (Some h) state' spare'
+takes_as h state spare state' spare' q t = subst (λ (x : Device). Takes x state spare (Some h) state' spare') q t
+
+-- it isn't refused
+pub not_refused : (d : Device) (s p : ℕ) (r : Refusal) (state spare state' spare' : List ℕ) → takes_device d ≡ true → s ≡ state_length d → p ≡ spare_length d
+    → length state ≡ state_room → length spare ≡ spare_room → Obeyed (format_call d) s p state spare (refusal_number (refusal_of r)) state' spare' → ⊥
+not_refused d s p r state spare state' spare' t es ep long fits o =
+    refusal-numbered (refusal_of r) (no_number d state spare t long fits _ state' spare' (rw (es, ep) at o))

@@ -5,18 +5,19 @@ use Prim.Native.Nat.{ℕ, ◌≤◌}
 use native.Mathlib.Omega.{arith}
 use borrow.Author.Tests.{ne_eqb}
 use lib.ListN.{length, get_or}
+use Rattle.std.specs.Prelude.{Result, Ok, Err, ⊤}
+use Rattle.calls.specs.Refusals.{refusal_number}
+use Rattle.answers.specs.declared.Refusal.{Refusal}
+use Rattle.answers.specs.Answers.{refusal_of}
 use Rattle.model.specs.Device.{Device}
 use Rattle.model.proofs.Lists.{store_nil}
 use Rattle.lines.specs.Script.{call, bad, line_of}
 use Rattle.lines.specs.Printed.{refused_line, bad_line, Laid}
 use Rattle.lines.proofs.Texts.{laid_as}
 use Rattle.listing.specs.declared.lent.Held.{Held}
-use Rattle.listing.specs.declared.lent.Taken.{Taken}
-use Rattle.listing.specs.declared.lent.Taken.TheVariants as taken
-use Rattle.listing.specs.declared.session.Turn.{Turn}
 use Rattle.listing.specs.Sizes.{spare_room, state_room}
 use Rattle.listing.specs.Session.{Session, Reply, format_reply, refusal_print, call_reply, call_of, list_reply, device_of, operation_reply, reply, reply_to}
-use Rattle.listing.specs.Memory.{in_use, InMemory, Beyond, Obeyed, Takes, Replied}
+use Rattle.listing.specs.Memory.{Turn, in_use, refusal_in, InMemory, Beyond, Obeyed, Formats, Replied}
 use Rattle.listing.proofs.Parts.{new_device_lem}
 use Rattle.listing.proofs.Keeping.{call-ready}
 
@@ -57,27 +58,22 @@ module _ (h : Held) (state spare out : List ℕ) where
   unfolding reply
   replied_bad line n out' i e l = replied_as (sym (ap (λ (m : _). reply m s) e)) (replied_same (reply bad s) n out' i refl l)
 
-  -- a device that is taken
-  pub replied_format : (d : Device) (r : Taken) (h' : Held) (state' spare' : List ℕ) → r ≡ taken.Device h' → InMemory h state spare → Takes d state spare r state' spare'
-      → Replied (format_reply d s) state spare out (record { held = h'; laid = 0 }) state' spare' out
-  unfolding format_reply
-  replied_format d r h' state' spare' e i t =
-      let k : Takes d state spare (taken.Device h') state' spare' = rw e at t in
+  -- a format: a device that is taken, or any other
+  pub replied_format : (d : Device) (a : Result ⊤ Refusal) (h' : Held) (n : ℕ) (state' spare' out' : List ℕ) → InMemory h state spare → Formats d h state spare a h' state' spare'
+      → Laid out out' 0 n (refusal_print (refusal_in a)) → Replied (format_reply d s) state spare out (record { held = h'; laid = n }) state' spare' out'
+  unfolding format_reply refusal_print refusal_in refusal_number refusal_of
+  replied_format d (Ok x) h' n state' spare' out' i k l =
       rw (k.0, format_reply)
       (record {
         ready = k.2;
         leaves = rw k.1 (new_device_lem d state spare k.0 i.bytes i.entries 0 state' spare' (rw k.1 at k.3));
         beyond = k.3.beyond;
-        prints = laid_nothing out 0 (omega arith);
+        prints = l;
       })
-
-  -- any other
-  pub replied_refused : (d : Device) (r : Taken) (n : ℕ) (state' spare' out' : List ℕ) → r ≡ taken.Refused → InMemory h state spare → Takes d state spare r state' spare'
-      → Laid out out' 0 n (refused_line 1) → Replied (format_reply d s) state spare out (record { held = h; laid = n }) state' spare' out'
-  unfolding format_reply
-  replied_refused d r n state' spare' out' e i t l =
-      let k : Takes d state spare taken.Refused state' spare' = rw e at t in
-      rw (k.0, k.1, k.2, format_reply) (replied_same _ n out' i refl l)
+  replied_format d (Err r) h' n state' spare' out' i k l =
+      let t = k.0 in
+      let one : refusal_in (Err r) ≡ 1 = ap (λ (q : Refusal). refusal_in (Err q)) k.2 in
+      rw (t.0, t.1, t.2, k.1, format_reply) (replied_same _ n out' i refl (laid_as (ap refusal_print one) l))
 
   -- a listing
   pub replied_list : (k n : ℕ) (out' : List ℕ) → InMemory h state spare → Laid out out' 0 n (list_reply k s).printed

@@ -6,7 +6,7 @@ use Prim.Native.Nat.{ℕ, ◌+◌, ◌-◌, ◌^◌, ◌≤◌, ◌<◌}
 use native.Mathlib.Omega.{arith}
 use lib.ListN.{length, get_or, take, length-append}
 use lib.Seq.{length-take-le}
-use Rattle.std.specs.Prelude.{None, Some, IfSome, Ok, OnErr}
+use Rattle.std.specs.Prelude.{None, Some, IfSome, Ok, OnOk, OnErr}
 use Rattle.std.proofs.Common.{Result, Err}
 use Rattle.std.specs.declared.option.Option.{Option}
 use Rattle.std.specs.Io.KnownBytes.{Appends, Consumes, IsAtEnd}
@@ -14,10 +14,9 @@ use Rattle.std.proofs.KnownBytes.{Consumes-nil, Consumes-trans, Appends-nil, App
 use Rattle.model.proofs.Lists.{store-front}
 use Rattle.lines.specs.Printed.{Laid}
 use Rattle.listing.specs.declared.lent.Held.{Held}
-use Rattle.listing.specs.declared.session.Cursor.{Cursor}
 use Rattle.listing.specs.Session.{transcript}
 use Rattle.listing.specs.Memory.{in_use, InMemory}
-use Rattle.listing.specs.Progress.{Progress, start, fed, fed_prints, ending, progress, took, took_prints, Going, Stopped, Left, LeftBy}
+use Rattle.listing.specs.Progress.{Cursor, Progress, start, fed, fed_prints, ending, progress, took, took_prints, Going, Stopped, Left, LeftBy}
 use Rattle.listing.proofs.Bytes.{first}
 use Rattle.listing.proofs.Transcript.{Came, came_first, came_more, came_all, came-session, came-prints, prints_then, fed_next, prints_next}
 
@@ -36,6 +35,11 @@ module _ (bytes : List ℕ) (i : ℕ) (h : i < length bytes) (p : Progress) {q :
       → Appends b c (take n t) → Appends a c (fed_prints (take (i + 1) bytes) p)
   prints_on a b c x l y =
       rw (prints_next bytes i p h, ← e, ← laid-front l) (Appends-trans a b c _ _ x y)
+
+-- what is so of the end is so where there was no error
+pub on_ok : {T E : Type 0} (r : Result T E) (P : Type 0) → P → OnOk r P
+on_ok (Ok x) P h = h
+on_ok (Err e) P h = tt
 
 -- what is so of the end is so where there was an error
 pub on_err : {T E : Type 0} (r : Result T E) (P : Type 0) → P → OnErr r P
@@ -57,10 +61,10 @@ pub record Ran (p : Progress) (turns : ℕ) (read₀ read wrote₀ wrote : Optio
   pub came : Came p
   pub consumed : Consumes read₀ read came.script
   pub printed : Appends wrote₀ wrote (fed_prints came.script start)
-  pub turned : 2 ^ 64 - 1 ≤ length came.script + turns
+  pub turned : turns ≤ length came.script
 
 -- nothing at first
-pub ran_first : (line state spare : List ℕ) (read wrote : Option (List ℕ)) → Ran (progress first line state spare) (2 ^ 64 - 1) read read wrote wrote
+pub ran_first : (line state spare : List ℕ) (read wrote : Option (List ℕ)) → Ran (progress first line state spare) 0 read read wrote wrote
 unfolding fed_prints came_first
 ran_first line state spare read wrote =
     record { came = came_first line state spare; consumed = Consumes-nil read; printed = Appends-nil wrote; turned = omega arith }
@@ -68,7 +72,7 @@ ran_first line state spare read wrote =
 module _ {p : Progress} {turns : ℕ} {read₀ read wrote₀ wrote : Option (List ℕ)} where
   -- more
   pub ran_more : (q : Progress) (read' wrote' : Option (List ℕ)) (bytes : List ℕ) → Ran p turns read₀ read wrote₀ wrote → q ≡ fed bytes p → 1 ≤ length bytes
-      → Consumes read read' bytes → Appends wrote wrote' (fed_prints bytes p) → Ran q (turns - 1) read₀ read' wrote₀ wrote'
+      → Consumes read read' bytes → Appends wrote wrote' (fed_prints bytes p) → Ran q (turns + 1) read₀ read' wrote₀ wrote'
   unfolding came_more
   ran_more q read' wrote' bytes r e some c a =
       record {
@@ -120,7 +124,7 @@ module _ {p : Progress} {turns : ℕ} {read₀ read wrote₀ wrote : Option (Lis
         all = at_end room read₀ read read' _ r.consumed (rw e at c.0) (λ h. c.1 e (omega (arith, h, long)));
       }
 
-  pub whole_turned : turns ≡ 0 → Whole room p read₀ wrote₀ wrote
+  pub whole_turned : 2 ^ 64 - 1 ≤ turns → Whole room p read₀ wrote₀ wrote
   whole_turned e =
       record { came = r.came; printed = r.printed; all = turned_all room read₀ read _ r.consumed (omega (arith, r.turned, e)) }
 

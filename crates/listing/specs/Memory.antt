@@ -1,14 +1,15 @@
 -- The program's memory: the part that a device uses, and what a call, a format and a line do to the memory. Assumes nothing.
-use Rattle.std.specs.Prelude.{◌≡◌, List, true, false, ℕ, ◌≤◌, length, take, drop}
+use Rattle.std.specs.Prelude.{◌≡◌, List, Option, Some, None, Result, Ok, Err, ⊤, true, false, ℕ, ◌≤◌, length, take, drop}
 use Rattle.model.specs.Device.{Device, state_length, spare_length}
+use Rattle.calls.specs.Refusals.{refusal_number}
 use Rattle.calls.specs.Outcome.{number}
+use Rattle.answers.specs.declared.Refusal.{Refusal}
+use Rattle.answers.specs.declared.Refusal.TheVariants.{BadNumbers}
+use Rattle.answers.specs.Answers.{refusal_of}
 use Rattle.calls.specs.History.{Call, format_call, run}
 use Rattle.state.specs.Reading.{read_state}
 use Rattle.lines.specs.Printed.{Laid}
 use Rattle.listing.specs.declared.lent.Held.{Held}
-use Rattle.listing.specs.declared.lent.Taken.{Taken}
-use Rattle.listing.specs.declared.lent.Taken.TheVariants as taken
-use Rattle.listing.specs.declared.session.Turn.{Turn}
 use Rattle.listing.specs.Sizes.{block_room, plan_room, spare_room, state_room}
 use Rattle.listing.specs.Session.{Session, Reply, takes_device}
 
@@ -37,6 +38,11 @@ pub record Beyond (s p : ℕ) (state spare state' spare' : List ℕ) : Type 0 wh
 abbrev pub held_by : Device → Held
 held_by d = record { state = state_length d; spare = spare_length d; blocks = d.M; pages = d.B }
 
+-- the number that is printed for an answer: the refusal's, 0 where the call is accepted
+unfoldable pub refusal_in : Result ⊤ Refusal → ℕ
+refusal_in (Ok a) = 0
+refusal_in (Err r) = refusal_number (refusal_of r)
+
 -- A call on the first s bytes of state and p spare entries: the number that is printed (0 where the call is accepted, and nothing is), the
 -- state and the spare area that it leaves there; a refused call changes no byte, and none changes what lies beyond.
 pub record Obeyed (c : Call) (s p : ℕ) (state spare : List ℕ) (printed : ℕ) (state' spare' : List ℕ) : Type 0 where
@@ -47,9 +53,19 @@ pub record Obeyed (c : Call) (s p : ℕ) (state spare : List ℕ) (printed : ℕ
   pub beyond : Beyond s p state spare state' spare'
 
 -- A format: a device that is taken is formatted in the lengths it uses; any other is refused, and the memory stays.
-abbrev pub Takes : Device → List ℕ → List ℕ → Taken → List ℕ → List ℕ → Type 0
-Takes d state spare (taken.Device h) state' spare' = (takes_device d ≡ true) × (h ≡ held_by d) × InMemory h state' spare' × Obeyed (format_call d) h.state h.spare state spare 0 state' spare'
-Takes d state spare taken.Refused state' spare' = (takes_device d ≡ false) × (state' ≡ state) × (spare' ≡ spare)
+abbrev pub Takes : Device → List ℕ → List ℕ → Option Held → List ℕ → List ℕ → Type 0
+Takes d state spare (Some h) state' spare' = (takes_device d ≡ true) × (h ≡ held_by d) × InMemory h state' spare' × Obeyed (format_call d) h.state h.spare state spare 0 state' spare'
+Takes d state spare None state' spare' = (takes_device d ≡ false) × (state' ≡ state) × (spare' ≡ spare)
+
+-- The same of the memory with the lengths in use: a format that is refused leaves them, and its refusal is 1.
+abbrev pub Formats : Device → Held → List ℕ → List ℕ → Result ⊤ Refusal → Held → List ℕ → List ℕ → Type 0
+Formats d h state spare (Ok a) h' state' spare' = Takes d state spare (Some h') state' spare'
+Formats d h state spare (Err r) h' state' spare' = Takes d state spare None state' spare' × (h' ≡ h) × (r ≡ BadNumbers)
+
+-- What a line comes to: the lengths in use after it, and how many bytes it prints.
+pub record Turn : Type 0 where
+  pub held : Held
+  pub laid : ℕ
 
 -- A line obeyed: the memory holds the session that the reply leaves, what lies beyond the lengths then in use is as it was, and what the
 -- reply prints is laid out from the buffer's start on.

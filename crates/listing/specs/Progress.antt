@@ -3,7 +3,6 @@ use Rattle.std.specs.Prelude.{◌≡◌, List, [], ◌∷◌, ◌++◌, true, fa
 use Rattle.model.specs.Sound.{is_empty}
 use Rattle.lines.specs.Printed.{Laid}
 use Rattle.listing.specs.declared.lent.Held.{Held}
-use Rattle.listing.specs.declared.session.Cursor.{Cursor}
 use Rattle.listing.specs.Sizes.{line_room, reply_room}
 use Rattle.listing.specs.Session.{Session, unformatted, Reply, reply_to, newline, session_after}
 use Rattle.listing.specs.Memory.{in_use, InMemory, Beyond}
@@ -45,6 +44,12 @@ fed_prints (c ∷ cs) p = took_prints c p ++ fed_prints cs (took c p)
 -- the end of the input: "the last line may lack its newline"
 unfoldable pub ending : Progress → Reply
 ending p = elim (is_empty p.come) [ true ↦ record { printed = []; left = p.session } | false ↦ reply_to p.come p.session ]
+
+-- Between two bytes: the lengths in use, how many bytes of a line have come, and how many bytes wait in the output buffer.
+pub record Cursor : Type 0 where
+  pub held : Held
+  pub filled : ℕ
+  pub laid : ℕ
 
 -- how far the code is, by its memory and its line buffer
 abbrev pub progress : Cursor → List ℕ → List ℕ → List ℕ → Progress

@@ -6,18 +6,20 @@ ghost use Rattle.lines.specs.Printed.{head_line, line_for, Laid};
 ghost use Rattle.listing.specs.Sizes.{reply_room};
 ghost use Rattle.listing.specs.Session.{refusal_print};
 ghost use Rattle.listing.specs.Listing.{lines_in};
+ghost use Rattle.listing.specs.Memory.{refusal_in};
 
+use answers::Refusal;
 use lines::print::{lay_head, lay_record, lay_refused};
 
-// "refused" and the number; an accepted call, whose number is 0, prints nothing.
-pub fn lay_refusal(out: &mut [u8], number: u32) -> usize
+// "refused" and the number; an accepted call prints nothing.
+pub fn lay_refusal(out: &mut [u8], answer: Result<(), Refusal>) -> usize
     requires { 20 ≤ length out.old }
-    ensures { Laid out.old out.new 0 result (refusal_print number) }
+    ensures { Laid out.old out.new 0 result (refusal_print (refusal_in answer)) }
 {
-    if number == 0 {
-        return 0;
+    match answer {
+        Ok(()) => 0,
+        Err(refusal) => lay_refused(out, u32::from(refusal)),
     }
-    lay_refused(out, number)
 }
 
 // Lays out, from place `at` on, the line of record i of a listing, of ten bytes each: the record's eight, then its level in two.
@@ -38,10 +40,8 @@ pub fn lay_listing(out: &mut [u8], listing: &[u8], n: usize) -> usize
     ensures { Laid out.old out.new 0 result (head_line ++ lines_in n listing.now) }
 {
     let mut at = lay_head(out);
-    let mut i = 0;
-    while i < n {
+    for i in 0..n {
         at = lay_listed(out, at, listing, i);
-        i += 1;
     }
     at
 }

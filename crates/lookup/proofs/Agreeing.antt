@@ -8,6 +8,7 @@ use Prim.Native.Nat.{ℕ, ◌+◌, ◌-◌, ◌≤◌}
 use native.Mathlib.Omega.{arith}
 use lib.Dec.{eqb}
 use borrow.Author.Tests.{eq-eqb, ne_eqb, not-false}
+use Rattle.std.proofs.Math.Bool.{and_comm}
 use Rattle.model.specs.Device.{Device, group_of}
 use Rattle.model.specs.State.{State, group_at}
 use Rattle.model.specs.Sound.{sound_group, sound_state}
@@ -90,26 +91,26 @@ module _ (s : State) (spare : List ℕ) (s' : State) (spare' : List ℕ) where
         go false e u f = rw (e, compared_from) (seven (rw (each_join x m (named_at s spare), e)))
 
     joined : (same t : Bool) → Compared x same → each_below m (λ o. named_at s spare (x + o)) ≡ true → each_below m (λ o. named_at s' spare' (x + o)) ≡ true
-        → each_below m (λ o. alike_at (x + o)) ≡ t → Compared (x + m) (t && same)
+        → each_below m (λ o. alike_at (x + o)) ≡ t → Compared (x + m) (same && t)
     joined same t c e f q = record {
       named = rw (each_join x m (named_at s spare), e) c.named;
       named' = rw (each_join x m (named_at s' spare'), f) c.named';
-      told = rw (each_join x m alike_at, q, c.told) refl;
+      told = rw (each_join x m alike_at, q, c.told) (and_comm t same);
     }
 
-    by_next : (a : Answer) → Next a → (same : Bool) → Compared x same → (t : Bool) → agreed t ≡ a → Compared (x + m) (t && same)
+    by_next : (a : Answer) → Next a → (same : Bool) → Compared x same → (t : Bool) → agreed t ≡ a → Compared (x + m) (same && t)
     by_next _ (seven n) same c t y = let z : ◌≡◌ {A = ℕ} 0 1 = cc in absurd (omega arith)
     by_next _ (all e f) same c t y = joined same t c e f (let z : each_below m (λ o. alike_at (x + o)) ≡ t = cc in z)
 
-    pub more_told : (same : Bool) → Compared x same → (t : Bool) → agreed t ≡ from_here x m → Compared (x + m) (t && same)
+    pub more_told : (same : Bool) → Compared x same → (t : Bool) → agreed t ≡ from_here x m → Compared (x + m) (same && t)
     more_told same c t y = by_next (from_here x m) next same c t y
 
     -- they come to 7: so do all
-    seven_next : (a : Answer) → Next a → (r : Refusal) → refused r ≡ a → (each_below (x + m) (named_at s spare) && each_below (x + m) (named_at s' spare')) ≡ false
-    seven_next _ (seven n) r y = n
+    seven_next : (a : Answer) → Next a → (r : Refusal) → refused r ≡ a → (refused r ≡ refused not_named) × ((each_below (x + m) (named_at s spare) && each_below (x + m) (named_at s' spare')) ≡ false)
+    seven_next _ (seven n) r y = (y, n)
     seven_next _ (all e f) r y = let z : ◌≡◌ {A = ℕ} 0 1 = cc in absurd (omega arith)
 
-    pub more_refuses : (r : Refusal) → refused r ≡ from_here x m → (each_below (x + m) (named_at s spare) && each_below (x + m) (named_at s' spare')) ≡ false
+    pub more_refuses : (r : Refusal) → refused r ≡ from_here x m → (refused r ≡ refused not_named) × ((each_below (x + m) (named_at s spare) && each_below (x + m) (named_at s' spare')) ≡ false)
     more_refuses r y = seven_next (from_here x m) next r y
 
   -- behind the checks of both: 7, for either ..
@@ -204,9 +205,9 @@ module _ (s : State) (spare : List ℕ) where
       go true e = e
       go false e = let z : agreed t ≡ refused not_named = y ∙ self_is false e in let w : ◌≡◌ {A = ℕ} 0 1 = cc in absurd (omega arith)
 
-  pub self_refuses : (r : Refusal) → refused r ≡ compared s spare s spare → all_named s spare ≡ false
+  pub self_refuses : (r : Refusal) → refused r ≡ compared s spare s spare → (refused r ≡ refused not_named) × (all_named s spare ≡ false)
   self_refuses r y = go (all_named s spare) refl
     where
-      go : (u : Bool) → all_named s spare ≡ u → all_named s spare ≡ false
+      go : (u : Bool) → all_named s spare ≡ u → (refused r ≡ refused not_named) × (all_named s spare ≡ false)
       go true e = let z : refused r ≡ agreed (agrees s spare s spare) = y ∙ self_is true e in let w : ◌≡◌ {A = ℕ} 0 1 = cc in absurd (omega arith)
-      go false e = e
+      go false e = (y ∙ self_is false e, e)

@@ -11,8 +11,8 @@ use lib.ListN.{get_or}
 use borrow.Author.Tests.{eqb-true}
 use Rattle.model.specs.Device.{Device, pages}
 use Rattle.model.proofs.Bools.{and_l, and_r, is_false}
-use Rattle.calls.specs.Refusals.{not_named}
-use Rattle.calls.specs.Outcome.{Answer, agreed, refused}
+use Rattle.calls.specs.Refusals.{Refusal, not_named}
+use Rattle.calls.specs.Outcome.{agreed, refused}
 use Rattle.calls.specs.Lookup.{Looked, at, nowhere, unnamed}
 use Rattle.calls.specs.Agreement.{each_below, is_named, found_so, missed_so, alike}
 use Rattle.calls.proofs.Agreeing.{each_below_lem}
@@ -73,15 +73,19 @@ module _ (p : ℕ → Looked) (x m : ℕ) where
   unfolding compared_from
   self_unnamed e q = rw (e, compared_from)
 
-  pub self_yes : (a : Answer) → a ≡ agreed true → a ≡ compared_from p p x m → named ≡ true
-  self_yes a y e = go named refl
+  pub self_answers : (t : Bool) → agreed t ≡ compared_from p p x m → named ≡ true
+  self_answers t y = go named refl
     where
-      go : (t : Bool) → named ≡ t → named ≡ true
+      go : (u : Bool) → named ≡ u → named ≡ true
       go true f = f
-      go false f = let z : refused not_named ≡ agreed true = self_unnamed f p ∙ sym e ∙ y in let w : ◌≡◌ {A = ℕ} 0 1 = cc in absurd (omega arith)
+      go false f = let z : refused not_named ≡ agreed t = self_unnamed f p ∙ sym y in let w : ◌≡◌ {A = ℕ} 0 1 = cc in absurd (omega arith)
 
-  pub self_other : (a : Answer) → (a ≡ agreed true → ⊥) → a ≡ compared_from p p x m → named ≡ false
-  self_other a n e = is_false named (λ f. n (e ∙ sym (self_named f)))
+  pub self_refuses : (r : Refusal) → refused r ≡ compared_from p p x m → (refused r ≡ refused not_named) × (named ≡ false)
+  self_refuses r y = go named refl
+    where
+      go : (u : Bool) → named ≡ u → (refused r ≡ refused not_named) × (named ≡ false)
+      go true f = let z : refused r ≡ agreed true = y ∙ sym (self_named f) in let w : ◌≡◌ {A = ℕ} 0 1 = cc in absurd (omega arith)
+      go false f = (y ∙ sym (self_unnamed f p), f)
 
   pub first_seven : named ≡ false → (q : ℕ → Looked) → refused not_named ≡ compared_from p q x m
   first_seven e q = self_unnamed e q

@@ -1,6 +1,5 @@
 pub mod Looking
 pub mod Comparing
-pub mod Agreements
 pub mod Each
 pub mod Picking
 pub mod Sameness

@@ -3,13 +3,13 @@ use mathlib.Core.Path.{◌≡◌, refl, sym, ap, ◌∙◌}
 use mathlib.Core.List.{List, [], ◌∷◌, ◌++◌, map, flatten, append_assoc}
 use mathlib.Core.Option.{none, some}
 use mathlib.Core.Bool.{true, false}
-use Prim.Native.Nat.{ℕ, suc, ◌+◌, ◌*◌, ◌-◌, ◌≤◌, ◌<◌}
+use Prim.Native.Nat.{ℕ, suc, ◌+◌, ◌*◌, ◌≤◌, ◌<◌}
 use native.Mathlib.Omega.{arith}
 use native.Mathlib.Numerals.{add-one}
-use lib.ListN.{length, get_or, take, drop, drop_of_length-le}
+use lib.ListN.{length, get_or, drop, drop_of_length-le}
 use lib.Seq.{drop-cons}
 use Rattle.model.specs.Lists.{store}
-use Rattle.model.specs.Device.{Device, group_count}
+use Rattle.model.specs.Device.{Device, group_count, group_length}
 use Rattle.model.specs.Levels.{Level, Group, record_count}
 use Rattle.model.specs.State.{State, group_at}
 use Rattle.model.specs.Sound.{sound_group}
@@ -26,6 +26,7 @@ use Rattle.record.specs.Coding.{eight}
 use Rattle.group.specs.declared.Slot.{Slot}
 use Rattle.group.specs.Layout.{slots_of}
 use Rattle.group.specs.Answers.{no_slot}
+use Rattle.group.specs.Reading.{read_group}
 use Rattle.group.specs.Cutting.{Placed, in_level, flat_from}
 use Rattle.group.specs.Held.{slot_for, slots_for}
 use Rattle.group.proofs.Slots.{length-slots_of, few-used}
@@ -37,7 +38,7 @@ use Rattle.state.specs.Reading.{read_state}
 use Rattle.state.specs.Ran.{listing_slices, Ran}
 use Rattle.state.proofs.Refusing.{ran-refused, ran-accepted}
 use Rattle.state.proofs.GroupChecks.{no_group, unsound_group, sound_group_lem}
-use Rattle.state.proofs.Handing.{GroupPart, part-encodes}
+use Rattle.group.proofs.Soundness.{sound-encodes}
 
 -- the bytes of slots one after the other
 abbrev pub tens : List Slot → List ℕ
@@ -73,24 +74,23 @@ unfolding flat_from group_bytes flatten
 group-tens n [] = refl
 group-tens n (l ∷ g) = level-tens n l (flat_from (suc n) g) ∙ ap (λ (b : List ℕ). level_bytes n l ++ b) (group-tens (suc n) g)
 
--- a sound group's part has room, and its slots are the group's
-module _ (s : List ℕ) (k a e N : ℕ) (l : GroupPart s k a e) (sound : sound_group N k (group_at (read_state s) k) ≡ true) where
-  abbrev part : List ℕ
-  part = take (e - a) (drop a s)
+-- a sound group's bytes have room, and their slots are the group's
+module _ (b : List ℕ) (N k : ℕ) (g : Group) (size : length b ≡ group_length) (read : read_group b ≡ g) (sound : sound_group N k g ≡ true) where
+  sound_bytes : sound_group N k (read_group b) ≡ true
+  sound_bytes = ap (sound_group N k) read ∙ sound
 
-  pub part_room : Room part
-  part_room = (l.size, omega (arith, length-slots_of part, few-used part (part-encodes s k a e N l sound)))
+  pub part_room : Room b
+  part_room = (size, omega (arith, length-slots_of b, few-used b (sound-encodes N k b sound_bytes)))
 
-  part-slots : slots_of part ≡ slots_for (group_at (read_state s) k)
-  part-slots = (sound-held N k part (ap (sound_group N k) l.group ∙ sound)).slots ∙ ap slots_for l.group
+  part-slots : slots_of b ≡ slots_for g
+  part-slots = (sound-held N k b sound_bytes).slots ∙ ap slots_for read
 
-  pub part_count : length (slots_of part) ≡ record_count (group_at (read_state s) k)
-  part_count = ap length part-slots ∙ length-slots_for (group_at (read_state s) k)
+  pub part_count : length (slots_of b) ≡ record_count g
+  part_count = ap length part-slots ∙ length-slots_for g
 
-  pub part-listed : tens (slots_of part) ≡ group_bytes 0 (group_at (read_state s) k)
-  part-listed = ap tens part-slots ∙ group-tens 0 (group_at (read_state s) k)
+  pub part-listed : tens (slots_of b) ≡ group_bytes 0 g
+  part-listed = ap tens part-slots ∙ group-tens 0 g
 
--- a call: each refusal in order, then the group listed
 module _ (state spare : List ℕ) (k : ℕ) (out : List ℕ) where
   abbrev s : State
   s = read_state state

@@ -2,7 +2,7 @@
 use mathlib.Core.Path.{◌≡◌, refl, sym, ◌∙◌}
 use mathlib.Core.List.{List}
 use mathlib.Core.Logic.{◌⊎◌, inl, inr}
-use mathlib.Core.Bool.{Bool, true, false, cond}
+use mathlib.Core.Bool.{Bool, true, false, cond, ◌||◌}
 use Prim.Native.Nat.{ℕ, zero, suc, ◌+◌, ◌≤◌, ◌<◌}
 use native.Mathlib.Omega.{arith}
 use lib.Dec.{ltb, eqb}
@@ -11,6 +11,7 @@ use lib.Seq.{get_or-set_same, get_or-set_other}
 use borrow.Author.Tests.{ltb-true, ltb-false, eqb-true, eqb-false}
 use Rattle.record.proofs.Renewing.{after-set}
 use Rattle.model.specs.Device.{Device}
+use Rattle.model.proofs.Bools.{or_none}
 use Rattle.calls.specs.Lookup.{Looked}
 use Rattle.calls.specs.Agreement.{is_named}
 use Rattle.state.specs.Telling.{Tells, plainly}
@@ -50,8 +51,8 @@ unfolding is_named
 plainly_settled f a b e k = record { same = e ∙ sym k; named = rw e refl }
 
 -- what a state says of an offset where it doesn't go astray
-abbrev pub StraySo : Device → List ℕ → ℕ → List ℕ → ℕ → ℕ → Type 0
-StraySo d spare x forecasts o s = s ≡ 0 → (a : Looked) → Tells d spare (x + o) a (get_or forecasts o 0) → a ≡ plainly (get_or forecasts o 0)
+abbrev pub StraySo : Device → List ℕ → ℕ → List ℕ → ℕ → Bool → Type 0
+StraySo d spare x forecasts o s = s ≡ false → (a : Looked) → Tells d spare (x + o) a (get_or forecasts o 0) → a ≡ plainly (get_or forecasts o 0)
 
 module _ (d : Device) (spare : List ℕ) (d' : Device) (spare' : List ℕ) (x : ℕ) (forecasts held : List ℕ) (end : ℕ) where
   -- of the first i held offsets those are listed that go astray on either side, n of them
@@ -66,9 +67,9 @@ module _ (d : Device) (spare : List ℕ) (d' : Device) (spare' : List ℕ) (x : 
   pub astray_start : (l : List ℕ) → length l ≡ 257 → AstraySo l 0 0
   astray_start l long = record { past = omega arith; long = long; few = omega arith; low = λ j a. absurd (omega arith); picked = λ p q m told told' below. picked_start _ _ l }
 
-  pub astray_turn : (l : List ℕ) (n i s t c : ℕ) → AstraySo l n i → i < end → n < length l → get_or held i 0 < 256 → StraySo d spare x forecasts (get_or held i 0) s → StraySo d' spare' x forecasts (get_or held i 0) t
-      → c ≤ 1 → (c ≡ 0 → (s ≡ 0) × (t ≡ 0)) → AstraySo (set l n (get_or held i 0)) (n + c) (i + 1)
-  astray_turn l n i s t c so a inside small first second one both = record {
+  pub astray_turn : (l : List ℕ) (n i c : ℕ) (s t : Bool) → AstraySo l n i → i < end → n < length l → get_or held i 0 < 256 → StraySo d spare x forecasts (get_or held i 0) s → StraySo d' spare' x forecasts (get_or held i 0) t
+      → c ≤ 1 → (c ≡ 0 → (s || t) ≡ false) → AstraySo (set l n (get_or held i 0)) (n + c) (i + 1)
+  astray_turn l n i c s t so a inside small first second one both = record {
     past = omega arith;
     long = length-set l n _ ∙ so.long;
     few = omega (arith, so.few);
@@ -76,5 +77,5 @@ module _ (d : Device) (spare : List ℕ) (d' : Device) (spare' : List ℕ) (x : 
     picked = λ p q m told told' below.
         let o = get_or held i 0 in
         picked_turn _ _ l n i o c (so.picked p q m told told' below) inside refl one
-        (λ e. plainly_settled (get_or forecasts o 0) _ _ (first (both e).0 (p (x + o)) (told o (below i a))) (second (both e).1 (q (x + o)) (told' o (below i a))));
+        (λ e. plainly_settled (get_or forecasts o 0) _ _ (first (or_none s t (both e)).0 (p (x + o)) (told o (below i a))) (second (or_none s t (both e)).1 (q (x + o)) (told' o (below i a))));
   }

@@ -3,9 +3,9 @@ use mathlib.Core.Path.{◌≡◌, refl, sym, ap, ◌∙◌}
 use mathlib.Core.List.{List, [], flatten}
 use mathlib.Core.Option.{none, some}
 use mathlib.Core.Bool.{Bool, true, false, not}
-use Prim.Native.Nat.{ℕ, ◌-◌, ◌≤◌, ◌<◌}
+use Prim.Native.Nat.{ℕ, ◌≤◌, ◌<◌}
 use lib.Dec.{leb}
-use lib.ListN.{length, take, drop}
+use lib.ListN.{length}
 use borrow.Author.Tests.{le-leb, lt-leb}
 use Rattle.model.specs.Lists.{store}
 use Rattle.model.specs.Device.{Device, group_of, offset_of}
@@ -18,15 +18,9 @@ use Rattle.calls.specs.Outcome.{Lent, with_out, explained, refused}
 use Rattle.calls.specs.Why.{Reason, reasons_in, reasons, reasons_bytes, why_length, why_checks, why_done}
 use Rattle.calls.specs.History.{why_call, lend, lent_to, checks_of, effect}
 use Rattle.calls.proofs.Refusing.{front-refuses, others_decide, refuses_at, is_clear, right-length, wrong_length_lem}
-use Rattle.group.specs.Reading.{SoundBytes}
 use Rattle.state.specs.Reading.{read_state}
 use Rattle.state.specs.Ran.{listing_slices, Ran}
 use Rattle.state.proofs.Refusing.{ran-refused, ran-accepted}
-use Rattle.state.proofs.Handing.{GroupPart}
-
--- a sound group's part is a sound group's bytes
-pub part_sound : (s : List ℕ) (k a e N : ℕ) → GroupPart s k a e → sound_group N k (group_at (read_state s) k) ≡ true → SoundBytes (take (e - a) (drop a s))
-part_sound s k a e N l sound = record { pages = N; number = k; sound = ap (sound_group N k) l.group ∙ sound }
 
 module _ (state spare : List ℕ) (x : ℕ) (out : List ℕ) where
   abbrev s : State

@@ -3,7 +3,7 @@ use mathlib.Core.Path.{◌≡◌, refl, sym, ap, ◌∙◌, subst}
 use mathlib.Core.List.{List, [], ◌∷◌, ◌++◌, map, flatten, append_assoc}
 use mathlib.Core.Option.{Option}
 use mathlib.Core.Bool.{Bool, true, false}
-use Prim.Native.Nat.{ℕ, zero, suc, ◌+◌, ◌*◌, ◌-◌, ◌≤◌, ◌<◌}
+use Prim.Native.Nat.{ℕ, zero, suc, ◌+◌, ◌*◌, ◌-◌, ◌≤◌, ◌<◌, max}
 use native.Mathlib.Omega.{arith}
 use native.Mathlib.Numerals.{add-one}
 use lib.Dec.{eqb, leb}
@@ -118,7 +118,7 @@ module _ (b : List ℕ) (n o : ℕ) where
   levels-step i = rw (add-one i) refl
 
   -- where it isn't met ..
-  pub pass_on : (v : Option ℕ) (k i : ℕ) → i < n → met_at o k (placed_at b i) ≡ false → pass_at b n o v k i ≡ pass_at b n o v k (i + 1)
+  pass_on : (v : Option ℕ) (k i : ℕ) → i < n → met_at o k (placed_at b i) ≡ false → pass_at b n o v k i ≡ pass_at b n o v k (i + 1)
   pass_on v k i h f = rw (placed_step i h, levels-step i) (pass_over o v (levels_at b i) k (placed_at b i) (placed_from b n (i + 1)) f)
 
   -- .. where it is ..
@@ -131,31 +131,39 @@ module _ (b : List ℕ) (n o : ℕ) where
   unfolding pass_from
   pass_end k i h = rw (slots_end b n i h) refl
 
-  -- What is left to tell from level k on, by the slots from slot i on, which is met, makes the whole.
+  -- What is left to tell from level k on, by the slots from slot i on, makes the whole.
   pub record Left (out₀ out : List ℕ) (k i : ℕ) : Type 0 where
     pub last : i ≤ n
-    pub met : i < n → met_at o k (placed_at b i) ≡ true
     pub size : length out ≡ length out₀
     pub bytes : store out₀ 0 (reasons_bytes whole) ≡ store out (k * 12) (reasons_bytes (pass_at b n o w k i))
     pub count : length whole ≡ k + length (pass_at b n o w k i)
 
   -- At first all is.
-  pub left_all : SoundBytes b → o < 256 → n ≡ used_of b → (out : List ℕ) (i : ℕ) → i ≤ n → (i < n → met_at o 0 (placed_at b i) ≡ true)
-      → pass_at b n o w 0 0 ≡ pass_at b n o w 0 i → Left out out 0 i
+  pub left_all : SoundBytes b → o < 256 → n ≡ used_of b → (out : List ℕ) → Left out out 0 0
   unfolding levels_at
-  left_all g lt all out i low met on =
+  left_all g lt all out =
       let h : encodes b ≡ true = sound-encodes g.pages g.number b g.sound in
       let placed : placed_from b n 0 ≡ flat (read_group b) =
       ap (map (placed_of (owner_of b))) (sym (slots_all b n all))
       ∙ sym (ap flat (read_is b h) ∙ flat-cut (map (placed_of (owner_of b)) (slots_of b)) (encoded b h).climbing) in
-      let e : whole ≡ pass_at b n o w 0 i =
+      let e : whole ≡ pass_at b n o w 0 0 =
       ap (λ (v : Option ℕ). reasons_from o v (read_group b)) (sym (start_is b g o lt))
       ∙ sym (pass_is o w 0 (read_group b) (group-parts g.pages g.number _ g.sound).filled)
-      ∙ ap (pass_from o w 0 0) (sym placed)
-      ∙ on in
-      record { last = low; met = met; size = refl; bytes = ap (λ (l : List Reason). store out 0 (reasons_bytes l)) e; count = omega (arith, ap length e) }
+      ∙ ap (pass_from o w 0 0) (sym placed) in
+      record { last = omega arith; size = refl; bytes = ap (λ (l : List Reason). store out 0 (reasons_bytes l)) e; count = omega (arith, ap length e) }
+
+  -- A slot that isn't met tells nothing.
+  pub left_over : (out₀ out : List ℕ) (k i : ℕ) → i < n → Left out₀ out k i → met_at o k (placed_at b i) ≡ false → Left out₀ out k (i + 1)
+  left_over out₀ out k i h l f =
+      let e : pass_at b n o w k i ≡ pass_at b n o w k (i + 1) = pass_on w k i h f in record {
+        last = omega arith;
+        size = l.size;
+        bytes = l.bytes ∙ ap (λ (x : List Reason). store out (k * 12) (reasons_bytes x)) e;
+        count = l.count ∙ ap (λ (x : List Reason). k + length x) e;
+      }
 
   module _ (out₀ out mid out' : List ℕ) (k i : ℕ) (h : i < n) (l : Left out₀ out k i) (s : Slot) (is : s ≡ slot_of b i)
+      (met : met_at o k (placed_at b i) ≡ true)
       (e : Entry) (stands : Stands e (reason_of o w (record_of (owner_of b) s)))
       (passed : mid ≡ store out (k * 12) (reasons_bytes (gap k s.level))) (stored : out' ≡ store mid (s.level * 12) (twelve e)) where
     abbrev reason : Reason
@@ -167,10 +175,10 @@ module _ (b : List ℕ) (n o : ℕ) where
     -- no level is told twice
     low : k ≤ s.level
     unfolding met_at
-    low = rw is (leb-true k (slot_of b i).level (and_r (covers (record_of (owner_of b) (slot_of b i)) o) (leb k (slot_of b i).level) (l.met h)))
+    low = rw is (leb-true k (slot_of b i).level (and_r (covers (record_of (owner_of b) (slot_of b i)) o) (leb k (slot_of b i).level) met))
 
     left_is : pass_at b n o w k i ≡ gap k s.level ++ up_to reason later
-    left_is = rw is (pass_here k i h (l.met h))
+    left_is = rw is (pass_here k i h met)
 
     told-length : (x : List Reason) → k + length (gap k s.level ++ (reason ∷ x)) ≡ s.level + 1 + length x
     told-length x = omega (arith, low, length-append (gap k s.level) (reason ∷ x), length-replicate (s.level - k) uncovered)
@@ -195,19 +203,16 @@ module _ (b : List ℕ) (n o : ℕ) where
         )
 
     -- .. and any other leaves the levels below.
-    pub left_next : eqb e.note 3 ≡ false → length out' ≡ length out → (r : ℕ) → r ≤ n → (r < n → met_at o (s.level + 1) (placed_at b r) ≡ true)
-        → ((v : Option ℕ) → pass_at b n o v (s.level + 1) (i + 1) ≡ pass_at b n o v (s.level + 1) r) → Left out₀ out' (s.level + 1) r
+    pub left_next : eqb e.note 3 ≡ false → length out' ≡ length out → Left out₀ out' (s.level + 1) (i + 1)
     unfolding up_to flatten
-    left_next m size r high met on =
-        let u : up_to reason later ≡ reason ∷ pass_at b n o w (s.level + 1) r =
-        ap (λ (t : Bool). reason ∷ elim t [ true ↦ [] | false ↦ later ]) (sym stands.said ∙ m) ∙ ap (λ (x : List Reason). reason ∷ x) (on w) in
-        let v : pass_at b n o w k i ≡ gap k s.level ++ (reason ∷ pass_at b n o w (s.level + 1) r) = left_is ∙ ap (λ (x : List Reason). gap k s.level ++ x) u in
+    left_next m size =
+        let u : up_to reason later ≡ reason ∷ later = ap (λ (t : Bool). reason ∷ elim t [ true ↦ [] | false ↦ later ]) (sym stands.said ∙ m) in
+        let v : pass_at b n o w k i ≡ gap k s.level ++ (reason ∷ later) = left_is ∙ ap (λ (x : List Reason). gap k s.level ++ x) u in
         record {
-          last = high;
-          met = met;
+          last = omega arith;
           size = size ∙ l.size;
-          bytes = l.bytes ∙ ap (λ (x : List Reason). store out (k * 12) (reasons_bytes x)) v ∙ told-bytes (pass_at b n o w (s.level + 1) r);
-          count = l.count ∙ ap (λ (x : List Reason). k + length x) v ∙ told-length (pass_at b n o w (s.level + 1) r);
+          bytes = l.bytes ∙ ap (λ (x : List Reason). store out (k * 12) (reasons_bytes x)) v ∙ told-bytes later;
+          count = l.count ∙ ap (λ (x : List Reason). k + length x) v ∙ told-length later;
         }
 
   -- Where no slot is left, the levels are.
@@ -215,16 +220,8 @@ module _ (b : List ℕ) (n o : ℕ) where
     rest_is : pass_at b n o w k i ≡ gap k m
     rest_is = let e : i ≡ n = omega (arith, l.last) in rw levels (ap (λ (j : ℕ). pass_at b n o w k j) e ∙ pass_end k n (omega arith))
 
-    pub left_none : m ≤ k → (k ≡ length whole) × (out ≡ store out₀ 0 (reasons_bytes whole))
-    unfolding flatten
-    left_none f =
-        let v : pass_at b n o w k i ≡ [] = rest_is ∙ gap_none k m f in (
-          omega (arith, l.count ∙ ap (λ (x : List Reason). k + length x) v),
-          sym (l.bytes ∙ ap (λ (x : List Reason). store out (k * 12) (reasons_bytes x)) v ∙ store_nil out (k * 12)),
-        )
-
-    pub left-levels : k < m → (out' : List ℕ) → out' ≡ store out (k * 12) (reasons_bytes (gap k m)) → (m ≡ length whole) × (out' ≡ store out₀ 0 (reasons_bytes whole))
-    left-levels f out' d = (
+    pub left-levels : (out' : List ℕ) → out' ≡ store out (k * 12) (reasons_bytes (gap k m)) → (max m k ≡ length whole) × (out' ≡ store out₀ 0 (reasons_bytes whole))
+    left-levels out' d = (
       omega (arith, l.count ∙ ap (λ (x : List Reason). k + length x) rest_is, length-replicate (m - k) uncovered),
       d ∙ sym (l.bytes ∙ ap (λ (x : List Reason). store out (k * 12) (reasons_bytes x)) rest_is),
     )

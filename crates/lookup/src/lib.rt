@@ -2,10 +2,10 @@
 #![tactic(auto)]
 
 pub mod agree;
-mod alike;
 mod astray;
 mod compare;
 pub mod list;
 pub mod lookup;
 mod pages;
+mod side;
 pub mod why;

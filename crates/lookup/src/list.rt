@@ -17,11 +17,11 @@ ghost use Rattle.calls.specs.Listing.{group_bytes, listing_length};
 ghost use Rattle.calls.specs.History.{list_call};
 ghost use Rattle.state.specs.Ran.{listing_slices, Ran};
 
-use answers::{Listed, Opened, Refusal};
+use answers::Refusal;
 use front::Numbers;
 use group::Slot;
-use state::groups::group_sound;
-use state::numbers::{group_count, group_end, group_place};
+use state::groups::{group_bytes, group_sound};
+use state::numbers::group_count;
 use state::opening::open_state;
 
 // The length of `out`: ten bytes for each of 512 records.
@@ -44,11 +44,8 @@ fn list_slots(b: &[u8], out: &mut [u8]) -> u32
     ensures { (result ≡ length (slots_of b.now)) × (out.new ≡ store out.old 0 (flatten (map ten (slots_of b.now)))) }
 {
     let n = slots::used(b);
-    let mut i = 0;
-    while i < n {
-        let s = slots::get(b, i);
-        put_slot(out, i, s);
-        i += 1;
+    for i in 0..n {
+        put_slot(out, i, slots::get(b, i));
     }
     n
 }
@@ -60,30 +57,24 @@ fn list_group(state: &[u8], d: Numbers, k: u32, out: &mut [u8]) -> u32
     ensures { (result ≡ record_count (group_at (read_state state.now) k))
         × (out.new ≡ store out.old 0 (group_bytes 0 (group_at (read_state state.now) k))) }
 {
-    let a = group_place(d, k);
-    let e = group_end(d, k);
-    list_slots(&state[a..e], out)
+    list_slots(group_bytes(state, d, k), out)
 }
 
 // Lists a group's records: levels downward, each ascending. It is lent no spare area: whatever that is, it stays.
-pub fn list(state: &[u8], group: u32, out: &mut [u8]) -> Listed
+pub fn list(state: &[u8], group: u32, out: &mut [u8]) -> Result<u32, Refusal>
     ensures { (spare : List ℕ) → Ran (list_call group out.old) state.now spare (list_answer result)
         (listing_slices state.now spare out.new) }
 {
-    let opened = open_state(state);
-    let d = match opened {
-        Opened::Device(d) => d,
-        Opened::Refused(r) => return Listed::Refused(r),
-    };
+    let d = open_state(state)?;
     if out.len() != LISTING {
-        return Listed::Refused(Refusal::BadLength);
+        return Err(Refusal::BadLength);
     }
     if group_count(d) <= group {
-        return Listed::Refused(Refusal::OutOfRange);
+        return Err(Refusal::OutOfRange);
     }
     if !group_sound(state, d, group) {
-        return Listed::Refused(Refusal::NotSound);
+        return Err(Refusal::NotSound);
     }
     let n = list_group(state, d, group, out);
-    Listed::Done(n)
+    Ok(n)
 }

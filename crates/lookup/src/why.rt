@@ -1,6 +1,5 @@
 // Telling why: for each level from the top the record that covers a page's offset, with a reason, twelve bytes each, in a lent slice.
 ghost use Rattle.std.specs.Prelude.{◌≡◌, List, true, ℕ, ◌+◌, ◌*◌, ◌<◌, ◌≤◌, eqb, length};
-ghost use Rattle.std.proofs.Math.Option.{Option};
 ghost use Rattle.model.specs.Lists.{store};
 ghost use Rattle.model.specs.Device.{group_length, group_of, offset_of};
 ghost use Rattle.model.specs.State.{group_at};
@@ -9,21 +8,20 @@ ghost use Rattle.front.specs.Read.{numbers_of};
 ghost use Rattle.answers.specs.Answers.{why_answer};
 ghost use Rattle.record.specs.Read.{as_record, OwnedAs};
 ghost use Rattle.record.specs.Coding.{InEight};
-ghost use Rattle.group.specs.Layout.{offsets, used_of};
+ghost use Rattle.group.specs.Layout.{offsets};
 ghost use Rattle.group.specs.Reading.{read_group, SoundBytes};
 ghost use Rattle.calls.specs.Why.{uncovered, reason_of, reasons_in, reasons_bytes, why_length};
 ghost use Rattle.calls.specs.History.{why_call};
 ghost use Rattle.state.specs.Reading.{read_state};
 ghost use Rattle.state.specs.Shaped.{Shaped};
 ghost use Rattle.state.specs.Ran.{listing_slices, Ran};
-ghost use Rattle.lookup.specs.WhyEntries.{twelve, start_of, Stands, gap, placed_at, met_at, pass_at};
+ghost use Rattle.lookup.specs.WhyEntries.{twelve, start_of, Stands, gap};
 
-use answers::{Explained, Opened, Refusal};
+use answers::Refusal;
 use front::Numbers;
 use record::Record;
-use state::groups::group_sound;
+use state::groups::{group_bytes, group_sound};
 use state::marks::is_marked;
-use state::numbers::{group_end, group_place};
 use state::opening::open_state;
 
 // The length of an entry, and of `out`, which has 512.
@@ -51,6 +49,7 @@ pub struct Entry {
 }
 
 // Stores an entry in twelve bytes, as entry i.
+// Kept: list's put_slot is no twin: ten bytes with a level, not twelve with a note.
 fn put_entry(out: &mut [u8], i: u32, e: Entry)
     requires { (length out.old ≡ why_length) × (i < 512) × InEight e.held }
     ensures { out.new ≡ store out.old (i * 12) (twelve e) }
@@ -81,28 +80,16 @@ fn entry_for(r: Record, o: u32, w: u32) -> Entry
     requires { (o < 256) × (r.start + r.span ≤ 255) × (r.word ≡ 0 → r.span ≡ 0) × (w ≤ 256) × InEight r }
     ensures { (L : List ℕ) → OwnedAs r o (eqb w (r.start + 1)) L → Stands result (reason_of o (start_of w) (as_record r L)) }
 {
-    if r.member(o, w == r.start + 1) {
-        return Entry {
-            held: r,
-            note: MEMBER,
-        };
-    }
-    if !r.is_approximate() {
-        return Entry {
-            held: r,
-            note: OFF_STRIDE,
-        };
-    }
-    if w == 0 {
-        return Entry {
-            held: r,
-            note: NOT_OWNED,
-        };
-    }
-    Entry {
-        held: r,
-        note: OWNED_ELSE + BYTE_3 * (w - 1),
-    }
+    let note = if r.member(o, w == r.start + 1) {
+        MEMBER
+    } else if !r.is_approximate() {
+        OFF_STRIDE
+    } else if w == 0 {
+        NOT_OWNED
+    } else {
+        OWNED_ELSE + BYTE_3 * (w - 1)
+    };
+    Entry { held: r, note }
 }
 
 // Stores an entry without a record for each level from k up to before v.
@@ -110,34 +97,9 @@ fn put_gap(out: &mut [u8], k: u32, v: u32)
     requires { (length out.old ≡ why_length) × (v ≤ 512) }
     ensures { out.new ≡ store out.old (k * 12) (reasons_bytes (gap k v)) }
 {
-    let mut i = k;
-    while i < v {
-        let e = no_entry();
-        put_entry(out, i, e);
-        i += 1;
+    for i in k..v {
+        put_entry(out, i, no_entry());
     }
-}
-
-// The first slot from slot i on, of n, that is of level k or below and whose record covers offset o; n where there is none.
-fn next_met(b: &[u8], n: usize, i: usize, k: u32, o: u32) -> usize
-    requires { (length b.now ≡ group_length) × SoundBytes b.now × (o < offsets) × (n ≡ used_of b.now) × (n ≤ 512) × (i ≤ n) }
-    ensures { (i ≤ result) × (result ≤ n) × (result < n → met_at o k (placed_at b.now result) ≡ true)
-        × ((w : Option ℕ) → pass_at b.now n o w k i ≡ pass_at b.now n o w k result) }
-{
-    let mut j = i;
-    while j < n {
-        let s = group::slot_at(b, j);
-        let r = s.held;
-        if !r.covers(o) {
-            j += 1;
-            continue;
-        }
-        if k <= s.level {
-            return j;
-        }
-        j += 1;
-    }
-    j
 }
 
 // Stores the entries of a sound group's levels, down to the one that has offset o; how many there are. In a level ranges don't meet, so one
@@ -149,9 +111,11 @@ fn tell_slots(b: &[u8], o: u32, out: &mut [u8]) -> u32
     let n = group::used(b) as usize;
     let w = group::owner(b, o);
     let mut k = 0;
-    let mut i = next_met(b, n, 0, k, o);
-    while i < n {
+    for i in 0..n {
         let s = group::slot_at(b, i);
+        if !s.held.covers(o) || s.level < k {
+            continue;
+        }
         let e = entry_for(s.held, o, w);
         put_gap(out, k, s.level);
         put_entry(out, s.level, e);
@@ -159,14 +123,10 @@ fn tell_slots(b: &[u8], o: u32, out: &mut [u8]) -> u32
             return s.level + 1;
         }
         k = s.level + 1;
-        i = next_met(b, n, i + 1, k, o);
     }
     let levels = group::levels_at(b, n);
-    if levels <= k {
-        return k;
-    }
     put_gap(out, k, levels);
-    levels
+    levels.max(k)
 }
 
 // Tells of a page whose group is sound; how many entries there are.
@@ -176,33 +136,26 @@ fn tell_group(state: &[u8], d: Numbers, page: u32, out: &mut [u8]) -> u32
     ensures { (result ≡ length (reasons_in (offset_of page) (group_at (read_state state.now) (group_of page))))
         × (out.new ≡ store out.old 0 (reasons_bytes (reasons_in (offset_of page) (group_at (read_state state.now) (group_of page))))) }
 {
-    let a = group_place(d, page / 256);
-    let e = group_end(d, page / 256);
-    tell_slots(&state[a..e], page % 256, out)
+    tell_slots(group_bytes(state, d, page / 256), page % 256, out)
 }
 
 // Tells why a page's lookup ends where it does. It is lent no spare area: whatever that is, it stays.
-pub fn why(state: &[u8], page: u32, out: &mut [u8]) -> Explained
+pub fn why(state: &[u8], page: u32, out: &mut [u8]) -> Result<u32, Refusal>
     ensures { (spare : List ℕ) → Ran (why_call page out.old) state.now spare (why_answer result)
         (listing_slices state.now spare out.new) }
 {
-    let opened = open_state(state);
-    let d = match opened {
-        Opened::Device(d) => d,
-        Opened::Refused(r) => return Explained::Refused(r),
-    };
+    let d = open_state(state)?;
     if out.len() != WHY {
-        return Explained::Refused(Refusal::BadLength);
+        return Err(Refusal::BadLength);
     }
     if d.n <= page {
-        return Explained::Refused(Refusal::OutOfRange);
+        return Err(Refusal::OutOfRange);
     }
     if !group_sound(state, d, page / 256) {
-        return Explained::Refused(Refusal::NotSound);
+        return Err(Refusal::NotSound);
     }
     if is_marked(state, d, page) {
-        return Explained::Done(0);
+        return Ok(0);
     }
-    let n = tell_group(state, d, page, out);
-    Explained::Done(n)
+    Ok(tell_group(state, d, page, out))
 }

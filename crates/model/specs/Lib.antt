@@ -1,4 +1,5 @@
 pub mod Lists
+pub mod Options
 pub mod Device
 pub mod Record
 pub mod Spare

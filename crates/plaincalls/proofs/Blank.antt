@@ -11,7 +11,7 @@ use Rattle.model.proofs.Lists.{length-store}
 use Rattle.plain.specs.Table.{with_counts, with_entries, table_length, no_page}
 use Rattle.plain.specs.Calls.{blank_table}
 use Rattle.front.specs.Formatting.{head_of}
-use Rattle.front.proofs.Head.{head_stored}
+use Rattle.front.proofs.HeadBytes.{head_stored}
 use Rattle.plainstate.specs.Reading.{read_table}
 use Rattle.plainstate.specs.Shaped.{Shaped}
 use Rattle.plainstate.proofs.Sizes.{end_at}

@@ -16,12 +16,9 @@ use Rattle.plain.specs.Table.{Table, with_counts, with_entries}
 use Rattle.plain.specs.Calls.{enter, written}
 use Rattle.plaincalls.specs.Written.{block_taken}
 
--- what is left to enter, from place i on, makes the whole: at the start, ..
+-- what is left to enter, from place i on, makes the whole; so it is
 abbrev pub Entering : (first : ℕ) (l : List ℕ) (s : Table) (i : ℕ) (t : Table) → Type 0
 Entering first l s i t = with_entries (enter first l s.entries) s ≡ with_entries (enter (first + i) (drop i l) t.entries) t
-
-pub enter_none : (first : ℕ) (l : List ℕ) (s : Table) → Entering first l s 0 s
-enter_none first l s = let z : first ≡ first + 0 = omega arith in ap (λ (p : ℕ). with_entries (enter p l s.entries) s) z
 
 -- .. with one more, ..
 pub enter_next : (first : ℕ) (l : List ℕ) (s : Table) (i : ℕ) (t u : Table) → Entering first l s i t → i < length l

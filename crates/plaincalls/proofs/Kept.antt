@@ -3,13 +3,13 @@ use mathlib.Core.Path.{◌≡◌, refl, sym, ◌∙◌, ap}
 use mathlib.Core.List.{List, [], ◌∷◌}
 use mathlib.Core.Logic.{◌≢◌}
 use mathlib.Core.Bool.{Bool, true, false, ◌||◌, or-true}
-use Prim.Native.Nat.{ℕ, zero, suc, ◌+◌, ◌*◌, ◌/◌, ◌≤◌, ◌<◌}
+use Prim.Native.Nat.{ℕ, zero, suc, ◌+◌, ◌*◌, ◌/◌, ◌≤◌, ◌<◌, min}
 use native.Mathlib.Omega.{arith}
 use native.Mathlib.Nat.{mul-le-mul, mul-div_cancel, div-lt_iff_lt-mul}
 use lib.Dec.{eqb, ltb}
 use lib.ListN.{length, get_or, set, drop, drop_of_length-le, replicate, get_or-replicate}
 use lib.Seq.{get_or-set_other}
-use borrow.Author.Tests.{ltb-true, eqb-true, eqb-false, eq-eqb, ne_eqb}
+use borrow.Author.Tests.{ltb-true, ltb-false, eqb-true, eqb-false, eq-eqb, ne_eqb}
 use Rattle.model.specs.Lists.{all, elem}
 use Rattle.model.specs.Device.{Device, within_limits}
 use Rattle.model.proofs.Bools.{and_l, and_r}
@@ -108,7 +108,7 @@ module _ (d : Device) (w : within_limits d ≡ true) (kept : List ℕ) (one : ge
   room = counted kept d.M (omega (arith, one))
 
   -- It is the entry, where that names a page ..
-  pub looked-page : e < d.M * d.B → q ≡ e → Looked
+  looked-page : e < d.M * d.B → q ≡ e → Looked
   unfolding is_moved no_page
   looked-page h z =
       let k : e / d.B < d.M = (div-lt_iff_lt-mul some).1 h in
@@ -124,7 +124,7 @@ module _ (d : Device) (w : within_limits d ≡ true) (kept : List ℕ) (one : ge
         go true t = eqb-true e no_page t
         go false t = absurd (omega (arith, h, (div-lt_iff_lt-mul some).0 (names (eqb-false e no_page t))))
 
-    pub looked-past : q ≡ d.M * d.B → Looked
+    looked-past : q ≡ d.M * d.B → Looked
     looked-past z =
         let k : d.M * d.B / d.B ≡ d.M = mul-div_cancel d.M some in
         let f : eqb (get_or kept d.M 0) 0 ≡ false = ne_eqb (get_or kept d.M 0) 0 (λ y. omega (arith, y, one)) in
@@ -133,3 +133,11 @@ module _ (d : Device) (w : within_limits d ≡ true) (kept : List ℕ) (one : ge
           inside = rw (z, k) room;
           answers = rw (z, k) (f ∙ sym (ap (is_moved kept d.B) named_none ∙ unmoved kept d.B));
         }
+
+  -- So the lower of both is looked up.
+  pub looked-lower : (e ≢ no_page → e / d.B < d.M) → q ≡ min e (d.M * d.B) → Looked
+  looked-lower names z = go (ltb e (d.M * d.B)) refl
+    where
+      go : (t : Bool) → ltb e (d.M * d.B) ≡ t → Looked
+      go true t = let h : e < d.M * d.B = ltb-true e (d.M * d.B) t in looked-page h (omega arith)
+      go false t = let h : d.M * d.B ≤ e = ltb-false e (d.M * d.B) t in looked-past names h (omega arith)

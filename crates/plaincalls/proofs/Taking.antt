@@ -22,7 +22,6 @@ use Rattle.calls.specs.PageMap.{clear_counts}
 use Rattle.calls.proofs.Choosing.{victim_used}
 use Rattle.calls.proofs.Moves.{Writable, moves-ready}
 use Rattle.calls.proofs.MapInvariant.{owner-names}
-use Rattle.front.proofs.Within.{room_small}
 use Rattle.choice.specs.Tally.{chosen}
 use Rattle.choice.specs.Taking.{Chooses}
 use Rattle.choice.proofs.Taken.{blocks-few}
@@ -59,12 +58,6 @@ module _ (d : Device) (bytes : List ℕ) (v : Passed d (read_table bytes)) where
 
   same_N : s.device.N ≡ d.N
   same_N = ap (λ (e : Device). e.N) v.shape.numbers
-
-  -- There are few logical pages.
-  pub logicals-small : d.N < 1048576
-  logicals-small =
-      let l = limits d v.shape.limits in
-      omega (arith, l.most_N, room_small d.M d.B l.most_M l.most_B)
 
   -- The table shows a page map.
   pub shown : Inv (map_of s) s.entries

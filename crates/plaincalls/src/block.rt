@@ -18,10 +18,8 @@ fn enter(state: &mut [u8], d: Numbers, first: u32, pages: &[u32])
     ensures { read_table state.new
         ≡ with_entries (enter first pages.now (read_table state.old).entries) (read_table state.old) }
 {
-    let mut i = 0;
-    while i < pages.len() {
-        set_entry(state, d, pages[i], first + i as u32);
-        i += 1;
+    for (i, x) in pages.iter().enumerate() {
+        set_entry(state, d, *x, first + i as u32);
     }
 }
 

@@ -19,8 +19,8 @@ ghost use Rattle.plaincalls.specs.Collecting.{admit_checks};
 
 use crate::block::write_block;
 use crate::moving::moves;
-use answers::{Collected, Opened, Refusal};
-use choice::taking::{Taken, take_blocks};
+use answers::{Collected, Refusal};
+use choice::taking::take_blocks;
 use front::Numbers;
 use front::counts::{free_count, lowest_free};
 use plainstate::counts::set_count;
@@ -28,31 +28,27 @@ use plainstate::opening::open_table;
 use plainstate::sound::sound;
 
 // The device numbers where 1, 2 and 3 don't apply, else the refusal. Where they don't, the front of the tally is the table's.
-fn check(state: &[u8], plan: &[u32], erased: &[u32], tally: &mut [u16]) -> Opened
+fn check(state: &[u8], plan: &[u32], erased: &[u32], tally: &mut [u16]) -> Result<Numbers, Refusal>
     ensures verdict { verdict_of result ≡ verdict (admit_checks plan.now erased.now (read_table state.now))
         (read_table state.now).device }
     ensures tally { first_refusal (admit_checks plan.now erased.now (read_table state.now)) ≡ none
         → tally.new ≡ store tally.old 0 (tally_of (read_table state.now)) }
 {
-    let opened = open_table(state);
-    let d = match opened {
-        Opened::Device(d) => d,
-        Opened::Refused(r) => return Opened::Refused(r),
-    };
+    let d = open_table(state)?;
     if plan.len() != d.b as usize {
-        return Opened::Refused(Refusal::BadLength);
+        return Err(Refusal::BadLength);
     }
     if erased.len() != d.m as usize {
-        return Opened::Refused(Refusal::BadLength);
+        return Err(Refusal::BadLength);
     }
     if !sound(state, d, tally) {
-        return Opened::Refused(Refusal::NotSound);
+        return Err(Refusal::NotSound);
     }
-    Opened::Device(d)
+    Ok(d)
 }
 
 // Where 8 or 6 applies, that; else the taken blocks are listed at the front of `erased`.
-fn take(state: &[u8], d: Numbers, tally: &[u16], erased: &mut [u32]) -> Taken
+fn take(state: &[u8], d: Numbers, tally: &[u16], erased: &mut [u32]) -> Result<usize, Refusal>
     requires { Passed (numbers_of d) (read_table state.now) × (length erased.old ≡ d.m) × (tally.now ≡ tally_of (read_table state.now)) }
     ensures { (choice_of result ≡ choice (victims (read_table state.now)) (read_table state.now).counts)
         × (erased.new ≡ listed (victims (read_table state.now)) (read_table state.now).counts erased.old) }
@@ -68,7 +64,7 @@ fn write_moves(state: &mut [u8], d: Numbers, pages: &[u32]) -> u32
         (read_table state.old).counts }
     ensures left { read_table state.new ≡ written (moves_of (read_table state.old)) (read_table state.old) }
 {
-    if pages.len() == 0 {
+    if pages.is_empty() {
         return 0;
     }
     let k = lowest_free(state, d);
@@ -81,17 +77,15 @@ fn erase_blocks(state: &mut [u8], d: Numbers, blocks: &[u32])
     requires { Shaped (numbers_of d) (read_table state.old) × (all (λ k. ltb k d.m) blocks.now ≡ true) }
     ensures { read_table state.new ≡ cleared blocks.now (read_table state.old) }
 {
-    let mut i = 0;
-    while i < blocks.len() {
-        set_count(state, d, blocks[i], 0);
-        i += 1;
+    for k in blocks {
+        set_count(state, d, *k, 0);
     }
 }
 
 // The pages of the taken blocks that entries name are moved, and these blocks erased.
 fn carry_out(state: &mut [u8], plan: &mut [u32], d: Numbers, blocks: &[u32]) -> Collected
     requires { Passed (numbers_of d) (read_table state.old) × (length plan.old ≡ d.b) × (blocks.now ≡ blocks_of (victims (read_table state.old))) }
-    ensures answer { collect_answer result ≡ collected
+    ensures answer { collect_answer (Ok result) ≡ collected
         (first_of (moves_of (read_table state.old)) (read_table state.old).device (read_table state.old).counts)
         (length (moves_of (read_table state.old))) (length (blocks_of (victims (read_table state.old)))) }
     ensures table { read_table state.new
@@ -102,25 +96,20 @@ fn carry_out(state: &mut [u8], plan: &mut [u32], d: Numbers, blocks: &[u32]) -> 
     let n = moves(state, d, blocks, &mut pages, plan);
     let first = write_moves(state, d, &pages[..n]);
     erase_blocks(state, d, blocks);
-    Collected::Done(first, n as u32, blocks.len() as u32)
+    Collected {
+        first,
+        count: n as u32,
+        erased: blocks.len() as u32,
+    }
 }
 
 // Document 02's collection of the plain engine.
-pub fn collect(state: &mut [u8], plan: &mut [u32], erased: &mut [u32]) -> Collected
+pub fn collect(state: &mut [u8], plan: &mut [u32], erased: &mut [u32]) -> Result<Collected, Refusal>
     ensures { Ran (collect plan.old erased.old) state.old (collect_answer result)
         (record { state = state.new; plan = plan.new; erased = erased.new }) }
 {
     let mut tally = [0u16; 4096];
-    let checked = check(state, plan, erased, &mut tally);
-    let d = match checked {
-        Opened::Device(d) => d,
-        Opened::Refused(r) => return Collected::Refused(r),
-    };
-    let taken = take(state, d, &tally[..d.m as usize], erased);
-    let c = match taken {
-        Taken::Blocks(c) => c,
-        Taken::NothingToGain => return Collected::Refused(Refusal::NothingToGain),
-        Taken::NoFreeBlock => return Collected::Refused(Refusal::NoFreeBlock),
-    };
-    carry_out(state, plan, d, &erased[..c])
+    let d = check(state, plan, erased, &mut tally)?;
+    let c = take(state, d, &tally[..d.m as usize], erased)?;
+    Ok(carry_out(state, plan, d, &erased[..c]))
 }

@@ -9,7 +9,7 @@ ghost use Rattle.plainstate.specs.Ran.{Ran};
 ghost use Rattle.plaincalls.specs.Written.{Admitted, Written};
 
 use crate::block::write_block;
-use answers::{Flushed, Opened, Refusal};
+use answers::{Flushed, Refusal};
 use front::Numbers;
 use front::counts::{free_count, lowest_free};
 use plainstate::opening::open_table;
@@ -17,33 +17,31 @@ use plainstate::sound::sound;
 use sorting::order::{all_below, ascends, wrong_size};
 use sorting::sort::{number, sort_any};
 
+// So many free blocks a flush needs: it leaves one to a collection.
+const NEEDED: u32 = 2;
+
 // The device numbers where the flush is not refused, else its refusal: 1, 2, 3, 5, 4, 6, the first that applies.
-fn check(state: &[u8], batch: &[u32], plan: &[u32]) -> Opened
+fn check(state: &[u8], batch: &[u32], plan: &[u32]) -> Result<Numbers, Refusal>
     ensures { verdict_of result ≡ verdict (checks_of (flush batch.now plan.now) (read_table state.now))
         (read_table state.now).device }
 {
-    let opened = open_table(state);
-    let d = match opened {
-        Opened::Device(d) => d,
-        Opened::Refused(r) => return Opened::Refused(r),
-    };
+    let d = open_table(state)?;
     if plan.len() != d.b as usize {
-        return Opened::Refused(Refusal::BadLength);
+        return Err(Refusal::BadLength);
     }
-    let mut none = [0u16; 0];
-    if !sound(state, d, &mut none) {
-        return Opened::Refused(Refusal::NotSound);
+    if !sound(state, d, &mut []) {
+        return Err(Refusal::NotSound);
     }
     if wrong_size(batch, d.b) {
-        return Opened::Refused(Refusal::BadBatch);
+        return Err(Refusal::BadBatch);
     }
     if !all_below(batch, d.n) {
-        return Opened::Refused(Refusal::OutOfRange);
+        return Err(Refusal::OutOfRange);
     }
-    if free_count(state, d) < 2 {
-        return Opened::Refused(Refusal::NoFreeBlock);
+    if free_count(state, d) < NEEDED {
+        return Err(Refusal::NoFreeBlock);
     }
-    Opened::Device(d)
+    Ok(d)
 }
 
 // Block k takes the batch, sorted; how many pages it takes. The plan gets the sources.
@@ -67,22 +65,22 @@ fn write_batch(state: &mut [u8], plan: &mut [u32], d: Numbers, k: u32, batch: &[
     if ascends(batch) {
         number(batch, plan);
         write_block(state, d, k, batch);
-        return batch.len() as u32;
+        batch.len() as u32
+    } else {
+        write_sorted(state, plan, d, k, batch)
     }
-    write_sorted(state, plan, d, k, batch)
 }
 
 // Document 02's flush of the plain engine.
-pub fn flush(state: &mut [u8], batch: &[u32], plan: &mut [u32]) -> Flushed
+pub fn flush(state: &mut [u8], batch: &[u32], plan: &mut [u32]) -> Result<Flushed, Refusal>
     ensures { Ran (flush batch.now plan.old) state.old (flush_answer result)
         (record { state = state.new; plan = plan.new; erased = [] }) }
 {
-    let opened = check(state, batch, plan);
-    let d = match opened {
-        Opened::Device(d) => d,
-        Opened::Refused(r) => return Flushed::Refused(r),
-    };
+    let d = check(state, batch, plan)?;
     let k = lowest_free(state, d);
-    let n = write_batch(state, plan, d, k, batch);
-    Flushed::Done(k * d.b, n)
+    let count = write_batch(state, plan, d, k, batch);
+    Ok(Flushed {
+        first: k * d.b,
+        count,
+    })
 }

@@ -2,7 +2,8 @@
 use mathlib.Core.Path.{◌≡◌, refl, sym, ap, subst, ◌∙◌}
 use mathlib.Core.List.{List, [], ◌∷◌, ◌++◌}
 use mathlib.Core.Logic.{◌≢◌}
-use mathlib.Core.Bool.{Bool, true, false, ◌||◌}
+use mathlib.Core.Bool.{Bool, true, false, not, ◌||◌}
+use Rattle.std.specs.Int.{from_bool}
 use Prim.Native.Nat.{ℕ, zero, suc, ◌+◌, ◌*◌, ◌≤◌, ◌<◌}
 use native.Mathlib.Omega.{arith}
 use native.Mathlib.Numerals.{add-one}
@@ -62,13 +63,17 @@ names_most e = go (eqb e no_page) refl
     go true q = omega (arith, names_at e (eqb-true e no_page q))
     go false q = omega (arith, names_one e (eqb-false e no_page q))
 
--- the page that is marked has its bit
-pub in_room : (e n q other room : ℕ) → (e < n → q ≡ e) × (n ≤ e → q ≡ other) → n ≤ room → other < room → q < room
-in_room e n q other room way h l = go (ltb e n) refl
+-- as the code counts them
+names_told : (e : ℕ) → from_bool (not (eqb e no_page)) ≡ names e
+unfolding names
+names_told e = go (eqb e no_page) refl
   where
-    go : (t : Bool) → ltb e n ≡ t → q < room
-    go true i = let f : e < n = ltb-true e n i in omega (arith, way.0 f)
-    go false i = let f : n ≤ e = ltb-false e n i in omega (arith, way.1 f)
+    go : (t : Bool) → eqb e no_page ≡ t → from_bool (not t) ≡ names e
+    go true q = rw (q, names)
+    go false q = rw (q, names)
+
+pub told_most : (e : ℕ) → from_bool (not (eqb e no_page)) ≤ 1
+told_most e = omega (arith, names_told e, names_most e)
 
 none_inside : (e p : ℕ) → inside e (e + 0) p ≡ false
 none_inside e p = go (ltb p e) refl
@@ -104,8 +109,11 @@ module _ (es : List ℕ) where
     elem_next : (p : ℕ) → elem p (take (x + 1) es) ≡ (eqb p e || elem p (take x es))
     elem_next p = ap (elem p) one_more_lem ∙ elem_last p e (take x es)
 
-    pub named_next : named_to (x + 1) es ≡ names e + named_to x es
+    named_next : named_to (x + 1) es ≡ names e + named_to x es
     named_next = ap (λ (l : List ℕ). length (named_pages l)) one_more_lem ∙ named_last e (take x es)
+
+    pub named_more : (y : ℕ) → y ≡ x + 1 → named_to y es ≡ from_bool (not (eqb e no_page)) + named_to x es
+    named_more y z = ap (λ (i : ℕ). named_to i es) z ∙ named_next ∙ ap (λ (m : ℕ). m + named_to x es) (sym (names_told e))
 
   module _ (n : ℕ) where
     -- none yet
@@ -115,7 +123,7 @@ module _ (es : List ℕ) where
 
     -- the entry's page is marked; or, where it names none of the n pages, another beyond them
     module _ (x e q : ℕ) (h : x < length es) (g : e ≡ get_or es x no_page) (bits : List ℕ) (m : NamedTo n x es bits) (r : q < 8 * length bits) where
-      pub page_named_lem : q ≡ e → NamedTo n (x + 1) es (mark q bits)
+      page_named_lem : q ≡ e → NamedTo n (x + 1) es (mark q bits)
       unfolding mark_byte
       page_named_lem z p l =
           mark-marked q bits (omega arith) p ∙ ap (λ (y : ℕ). eqb p y || is_marked bits p) z
@@ -127,13 +135,20 @@ module _ (es : List ℕ) where
           mark-marked q bits (omega arith) p ∙ ap (λ (t : Bool). t || is_marked bits p) (ne_eqb p q (λ z. omega arith)) ∙ m p l
           ∙ sym (elem_next x e h g p ∙ ap (λ (t : Bool). t || elem p (take x es)) (ne_eqb p e (λ z. omega arith)))
 
-      -- by either way that the code takes
-      pub some_named : (other : ℕ) → (e < n → q ≡ e) × (n ≤ e → q ≡ other) → n ≤ other → (after : List ℕ) → after ≡ mark q bits → NamedTo n (x + 1) es after
-      some_named other way h after a = subst (NamedTo n (x + 1) es) (sym a) (go (ltb e n) refl)
-        where
-          go : (t : Bool) → ltb e n ≡ t → NamedTo n (x + 1) es (mark q bits)
-          go true i = page_named_lem (way.0 (ltb-true e n i))
-          go false i = let f : n ≤ e = ltb-false e n i in other_named (omega (arith, way.1 f)) f
+      module _ (y : ℕ) (next : y ≡ x + 1) (after : List ℕ) (a : after ≡ mark q bits) where
+        marked_next : NamedTo n (x + 1) es (mark q bits) → NamedTo n y es after
+        marked_next k = subst (λ (i : ℕ). NamedTo n i es after) (sym next) (subst (NamedTo n (x + 1) es) (sym a) k)
+
+        pub page_named : q ≡ e → NamedTo n y es after
+        page_named z = marked_next (page_named_lem z)
+
+        -- by either way that the code takes
+        pub some_named : (other : ℕ) → (e < n → q ≡ e) × (n ≤ e → q ≡ other) → n ≤ other → NamedTo n y es after
+        some_named other way h = marked_next (go (ltb e n) refl)
+          where
+            go : (t : Bool) → ltb e n ≡ t → NamedTo n (x + 1) es (mark q bits)
+            go true i = page_named_lem (way.0 (ltb-true e n i))
+            go false i = let f : n ≤ e = ltb-false e n i in other_named (omega (arith, way.1 f)) f
 
     -- SIXTEEN AT ONCE. Entries in a row from page e on: these pages are named ..
     module _ (x e : ℕ) where

@@ -54,20 +54,17 @@ abbrev pub Counted : (t : ℕ → Bool) (a e p n : ℕ) → Type 0
 Counted t a e p n = length (select t (e - a) a) ≡ n + length (select t (e - p) p)
 
 module _ (t : ℕ → Bool) (a e : ℕ) where
-  -- none yet; v of m more; all; those up to p and the rest
-  pub counted_none : Counted t a e a 0
-  counted_none = omega arith
-
-  pub counted_more : (p m n v : ℕ) → p + m ≤ e → v ≡ length (select t m p) → Counted t a e p n → Counted t a e (p + m) (n + v)
-  counted_more p m n v h q k =
-      let parts = select-parts t m (e - (p + m)) p (e - p) (p + m) (omega arith) refl in
+  -- v of m more; all; those up to p and the rest
+  counted_more : (p m n v f : ℕ) → f ≡ p + m → f ≤ e → v ≡ length (select t m p) → Counted t a e p n → Counted t a e f (n + v)
+  counted_more p m n v f z h q k =
+      let parts = select-parts t m (e - f) p (e - p) f (omega arith) z in
       omega (arith, parts, q, k)
 
   pub counted_all : (p n : ℕ) → e ≤ p → Counted t a e p n → n ≡ length (select t (e - a) a)
   counted_all p n h k = omega (arith, k, select_most t (e - p) p)
 
-  pub counted-rest : (p n r : ℕ) → r ≡ length (select t (e - p) p) → Counted t a e p n → n + r ≡ length (select t (e - a) a)
-  counted-rest p n r q k = omega (arith, k, q)
+  pub counted-rest : (p n r f : ℕ) → f ≡ p → r ≡ length (select t (e - f) f) → Counted t a e p n → n + r ≡ length (select t (e - a) a)
+  counted-rest p n r f z q k = omega (arith, k, q, ap (λ (i : ℕ). length (select t (e - i) i)) z)
 
   -- no more than there are
   pub counted_most : (p n : ℕ) → Counted t a e p n → n ≤ e
@@ -95,9 +92,13 @@ bit-count t x v e = go (eqb (v % 2) 1) refl
         rw (u, select) (sym h)
 
 -- A page by its bit in its byte, b.
-pub page-count : (s : List ℕ) (p b : ℕ) → b ≡ get_or s (p / 8) 0 → length (select (is_marked s) 1 p) ≡ b / 2 ^ (p % 8) % 2
+page-count : (s : List ℕ) (p b : ℕ) → b ≡ get_or s (p / 8) 0 → length (select (is_marked s) 1 p) ≡ b / 2 ^ (p % 8) % 2
 unfolding is_marked mark_byte mark_value has_bit
 page-count s p b e = bit-count (is_marked s) p (b / 2 ^ (p % 8)) (ap (λ (c : ℕ). eqb (c / 2 ^ (p % 8) % 2) 1) (sym e))
+
+-- one page more
+pub page_more : (s : List ℕ) (a e p n b : ℕ) → p < e → b ≡ get_or s (p / 8) 0 → Counted (is_marked s) a e p n → Counted (is_marked s) a e (p + 1) (n + b / 2 ^ (p % 8) % 2)
+page_more s a e p n b l h k = counted_more (is_marked s) a e p 1 n (b / 2 ^ (p % 8) % 2) (p + 1) refl (omega arith) (sym (page-count s p b h)) k
 
 -- pages by byte i, b: by its n highest bits, and by all eight
 module _ (s : List ℕ) (i b : ℕ) (e : b ≡ get_or s i 0) (h : b < 256) where
@@ -135,13 +136,19 @@ module _ (s : List ℕ) (small : (i : ℕ) → get_or s i 0 < 256) where
   unfolding le16
   pair_small i = omega (arith, small i, small (i + 1))
 
-  pub word_count : (p : ℕ) → p % 8 ≡ 0 → length (select (is_marked s) 32 p) ≡ ones (le32 s (p / 8))
+  word_count : (i p : ℕ) → p ≡ 8 * i → length (select (is_marked s) 32 p) ≡ ones (le32 s i)
   unfolding le32
-  word_count p e =
-      let i = p / 8 in
-      let low = pair-count i p (omega arith) in
+  word_count i p e =
+      let low = pair-count i p e in
       let high = pair-count (i + 2) (p + 16) (omega arith) in
       let both : ones (le16 s (i + 2) * 65536 + le16 s i) ≡ ones (le16 s (i + 2)) + ones (le16 s i) =
       ones_cat 16 (le16 s (i + 2)) (le16 s i) (pair_small i) in
       let word : ones (le16 s (i + 2) * 65536 + le16 s i) ≡ ones (le32 s i) = ap ones (let z : le16 s (i + 2) * 65536 + le16 s i ≡ le32 s i = omega arith in z) in
       omega (arith, select-parts (is_marked s) 16 16 p 32 (p + 16) refl refl, low, high, both, word)
+
+  -- one word more
+  pub word_more : (a e i n w : ℕ) → a % 8 ≡ 0 → i < (e - a) / 32 → w ≡ le32 s (a / 8 + 4 * i) → Counted (is_marked s) a e (a + 32 * i) n
+      → Counted (is_marked s) a e (a + 32 * (i + 1)) (n + ones w)
+  word_more a e i n w z l h k =
+      counted_more (is_marked s) a e (a + 32 * i) 32 n (ones w) (a + 32 * (i + 1)) (omega arith) (omega arith)
+      (ap ones h ∙ sym (word_count (a / 8 + 4 * i) (a + 32 * i) (omega arith))) k

@@ -29,12 +29,10 @@ fn one_by_one(bits: &[u8], a: u32, e: u32) -> u32
     requires { (a ≤ e) × (e ≤ 8 * length bits.now) × (e ≤ 1048576) }
     ensures { result ≡ length (select (is_marked bits.now) (e - a) a) }
 {
-    let mut p = a;
     let mut n = 0;
-    while p < e {
+    for p in a..e {
         let byte = octets::get_u8(bits, (p / 8) as usize);
         n += (byte >> (p % 8)) % 2;
-        p += 1;
     }
     n
 }
@@ -44,14 +42,13 @@ fn by_words(bits: &[u8], a: u32, e: u32) -> u32
     requires { (a ≤ e) × (e ≤ 8 * length bits.now) × (e ≤ 1048576) × (a % 8 ≡ 0) }
     ensures { result ≡ length (select (is_marked bits.now) (e - a) a) }
 {
-    let mut p = a;
+    let words = (e - a) / 32;
     let mut n = 0;
-    while 32 <= e - p {
-        let word = octets::get_u32(bits, (p / 8) as usize);
-        n += u32::count_ones(word);
-        p += 32;
+    for i in 0..words {
+        let word = octets::get_u32(bits, (a / 8 + 4 * i) as usize);
+        n += word.count_ones();
     }
-    n + one_by_one(bits, p, e)
+    n + one_by_one(bits, a + 32 * words, e)
 }
 
 // How many of the pages from a up to e are marked.
@@ -59,10 +56,10 @@ pub fn ones(bits: &[u8], a: u32, e: u32) -> u32
     requires { (a ≤ e) × (e ≤ 8 * length bits.now) × (e ≤ 1048576) }
     ensures { result ≡ length (select (is_marked bits.now) (e - a) a) }
 {
-    let m = 8 * ((a + 7) / 8);
+    let m = a.next_multiple_of(8);
     if e <= m {
-        return one_by_one(bits, a, e);
+        one_by_one(bits, a, e)
+    } else {
+        one_by_one(bits, a, m) + by_words(bits, m, e)
     }
-    let first = one_by_one(bits, a, m);
-    first + by_words(bits, m, e)
 }

@@ -9,6 +9,7 @@ use crate::places::entry_place;
 use front::Numbers;
 
 // The entry of a logical page that isn't written.
+// Kept: what may not change is `Table.no_page`, the number that a state's bytes hold (docs/LAYOUT.md).
 pub const NO_PAGE: u32 = 4294967295;
 
 // The entry of logical page x.

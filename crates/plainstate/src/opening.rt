@@ -7,41 +7,37 @@ ghost use Rattle.plainstate.specs.Reading.{read_table};
 use crate::entries::entry;
 use crate::places::table_len;
 use crate::sound::entry_sound;
-use answers::{Opened, Refusal};
-use front::device::{HEAD, numbers, within_limits};
+use answers::Refusal;
+use front::Numbers;
+use front::device::{HEAD, numbers};
 
 // The device numbers of a state that has them, within their limits, and the length that they give.
-pub fn open_table(state: &[u8]) -> Opened
+pub fn open_table(state: &[u8]) -> Result<Numbers, Refusal>
     ensures { verdict_of result ≡ verdict (opening (read_table state.now)) (read_table state.now).device }
 {
     if state.len() < HEAD {
-        return Opened::Refused(Refusal::BadNumbers);
+        return Err(Refusal::BadNumbers);
     }
-    let d = numbers(state);
-    if !within_limits(d) {
-        return Opened::Refused(Refusal::BadNumbers);
-    }
+    let Some(d) = numbers(state).checked() else {
+        return Err(Refusal::BadNumbers);
+    };
     if state.len() != table_len(d) {
-        return Opened::Refused(Refusal::BadLength);
+        return Err(Refusal::BadLength);
     }
-    Opened::Device(d)
+    Ok(d)
 }
 
 // So, and the logical page is below N and its entry sound.
-pub fn open_page(state: &[u8], x: u32) -> Opened
+pub fn open_page(state: &[u8], x: u32) -> Result<Numbers, Refusal>
     ensures { verdict_of result ≡ verdict (entry_checks x (read_table state.now)) (read_table state.now).device }
 {
-    let opened = open_table(state);
-    let d = match opened {
-        Opened::Device(d) => d,
-        Opened::Refused(r) => return Opened::Refused(r),
-    };
+    let d = open_table(state)?;
     if d.n <= x {
-        return Opened::Refused(Refusal::OutOfRange);
+        return Err(Refusal::OutOfRange);
     }
     let e = entry(state, d, x);
     if !entry_sound(state, d, e) {
-        return Opened::Refused(Refusal::NotSound);
+        return Err(Refusal::NotSound);
     }
-    Opened::Device(d)
+    Ok(d)
 }

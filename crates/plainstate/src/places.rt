@@ -1,6 +1,5 @@
 // The places and the length that the device numbers give (docs/LAYOUT.md).
-ghost use Rattle.std.specs.Prelude.{◌≡◌, true, ◌≤◌};
-ghost use Rattle.model.specs.Device.{within_limits};
+ghost use Rattle.std.specs.Prelude.{◌≡◌, ◌≤◌};
 ghost use Rattle.plain.specs.Table.{table_length};
 ghost use Rattle.front.specs.Read.{numbers_of};
 ghost use Rattle.plainstate.specs.Reading.{entry_place};
@@ -13,7 +12,7 @@ const ENTRY: usize = 4;
 
 // The place of logical page x's entry, and of what follows the last one.
 pub fn entry_place(d: Numbers, x: u32) -> usize
-    requires { (within_limits (numbers_of d) ≡ true) × (x ≤ d.n) }
+    requires { x ≤ d.n }
     ensures { result ≡ entry_place (numbers_of d) x }
 {
     count_place(d.m) + ENTRY * (x as usize)
@@ -21,9 +20,7 @@ pub fn entry_place(d: Numbers, x: u32) -> usize
 
 // The length of the state, in bytes.
 pub fn table_len(d: Numbers) -> usize
-    requires { within_limits (numbers_of d) ≡ true }
     ensures { result ≡ table_length (numbers_of d) }
 {
-    let n = d.n;
-    entry_place(d, n)
+    entry_place(d, d.n)
 }

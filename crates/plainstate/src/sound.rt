@@ -8,7 +8,7 @@ ghost use Rattle.front.specs.Read.{numbers_of};
 ghost use Rattle.plainstate.specs.Reading.{read_table};
 ghost use Rattle.plainstate.specs.Shaped.{Shaped};
 ghost use Rattle.plainstate.specs.Bits.{Blank, counted_from};
-ghost use Rattle.plainstate.specs.Tally.{tally_of, entry_for, entries_from};
+ghost use Rattle.plainstate.specs.Tally.{tally_of, entries_from};
 
 use crate::bits::ones;
 use crate::entries::NO_PAGE;
@@ -40,17 +40,6 @@ pub fn entry_sound(state: &[u8], d: Numbers, e: u32) -> bool
     i < count(state, d, k)
 }
 
-// A block's entry in the tally, where c of its pages are written and r of these valid.
-fn entry_for(c: u32, r: u32) -> u16
-    requires { r ≤ 256 }
-    ensures { result ≡ entry_for c r }
-{
-    if c == 0 {
-        return FREE;
-    }
-    r as u16
-}
-
 // Block k's entry becomes e, where the tally has room for it.
 fn put_entry(tally: &mut [u16], k: u32, e: u16)
     ensures { tally.new ≡ store tally.old k (e ∷ []) }
@@ -69,16 +58,14 @@ fn tally_marked(state: &[u8], d: Numbers, bits: &[u8], tally: &mut [u16]) -> u32
     ensures tally { tally.new
         ≡ store tally.old 0 (entries_from (is_marked bits.now) (numbers_of d) 0 (read_table state.now).counts) }
 {
-    let m = d.m;
     let mut n = 0;
-    let mut k = 0;
-    while k < m {
+    for k in 0..d.m {
         let c = count(state, d, k);
         let a = k * d.b;
         let r = ones(bits, a, a + c);
-        put_entry(tally, k, entry_for(c, r));
+        let e = if c == 0 { FREE } else { r as u16 };
+        put_entry(tally, k, e);
         n += r;
-        k += 1;
     }
     n
 }
@@ -96,43 +83,13 @@ fn sound_by(state: &[u8], d: Numbers, bits: &mut [u8], tally: &mut [u16]) -> boo
     tally_marked(state, d, bits, tally) == named
 }
 
-// Whether the table is sound, where the device has the fewest pages; with the tally.
-fn sound_least(state: &[u8], d: Numbers, tally: &mut [u16]) -> bool
-    requires { Shaped (numbers_of d) (read_table state.now) × (pages (numbers_of d) ≤ 4096) }
+// Whether the table is sound, with the tally, where so many bytes hold the device's pages and sixteen bytes more.
+fn sound_within<const BYTES: usize>(state: &[u8], d: Numbers, tally: &mut [u16]) -> bool
+    requires { Shaped (numbers_of d) (read_table state.now) × (pages (numbers_of d) + 128 ≤ 8 * BYTES) × (BYTES ≤ 131088) }
     ensures sound { result ≡ sound_table (read_table state.now) }
     ensures tally { result ≡ true → tally.new ≡ store tally.old 0 (tally_of (read_table state.now)) }
 {
-    let mut bits = [0u8; 528];
-    sound_by(state, d, &mut bits, tally)
-}
-
-// Where it has few.
-fn sound_few(state: &[u8], d: Numbers, tally: &mut [u16]) -> bool
-    requires { Shaped (numbers_of d) (read_table state.now) × (pages (numbers_of d) ≤ 32768) }
-    ensures sound { result ≡ sound_table (read_table state.now) }
-    ensures tally { result ≡ true → tally.new ≡ store tally.old 0 (tally_of (read_table state.now)) }
-{
-    let mut bits = [0u8; 4112];
-    sound_by(state, d, &mut bits, tally)
-}
-
-// Where it has more.
-fn sound_more(state: &[u8], d: Numbers, tally: &mut [u16]) -> bool
-    requires { Shaped (numbers_of d) (read_table state.now) × (pages (numbers_of d) ≤ 262144) }
-    ensures sound { result ≡ sound_table (read_table state.now) }
-    ensures tally { result ≡ true → tally.new ≡ store tally.old 0 (tally_of (read_table state.now)) }
-{
-    let mut bits = [0u8; 32784];
-    sound_by(state, d, &mut bits, tally)
-}
-
-// Where it has as many as there can be.
-fn sound_most(state: &[u8], d: Numbers, tally: &mut [u16]) -> bool
-    requires { Shaped (numbers_of d) (read_table state.now) }
-    ensures sound { result ≡ sound_table (read_table state.now) }
-    ensures tally { result ≡ true → tally.new ≡ store tally.old 0 (tally_of (read_table state.now)) }
-{
-    let mut bits = [0u8; 131088];
+    let mut bits = [0u8; BYTES];
     sound_by(state, d, &mut bits, tally)
 }
 
@@ -145,13 +102,12 @@ pub fn sound(state: &[u8], d: Numbers, tally: &mut [u16]) -> bool
 {
     let n = d.m * d.b;
     if n <= LEAST {
-        return sound_least(state, d, tally);
+        sound_within::<528>(state, d, tally)
+    } else if n <= FEW {
+        sound_within::<4112>(state, d, tally)
+    } else if n <= MORE {
+        sound_within::<32784>(state, d, tally)
+    } else {
+        sound_within::<131088>(state, d, tally)
     }
-    if n <= FEW {
-        return sound_few(state, d, tally);
-    }
-    if n <= MORE {
-        return sound_more(state, d, tally);
-    }
-    sound_most(state, d, tally)
 }

@@ -8,7 +8,9 @@ use native.Mathlib.Omega.{arith}
 use lib.Dec.{ltb, eqb}
 use lib.ListN.{length}
 use borrow.Author.Tests.{eqb-true, eq-eqb, ne_eqb, lt-ltb, le-ltb, le-leb, lt-leb}
+use Rattle.std.specs.Prelude.{Some, None}
 use Rattle.model.specs.Device.{group_length}
+use Rattle.model.specs.Options.{as_option}
 use Rattle.model.specs.Record as model
 use Rattle.model.specs.Levels.{Group, listing, record_count, holder, levels_to, compact, group_limit}
 use Rattle.model.specs.Sound.{sound_group}
@@ -17,9 +19,6 @@ use Rattle.model.proofs.LevelsTo.{levels_to_most}
 use Rattle.model.proofs.SoundGroup.{group-parts}
 use Rattle.record.specs.declared.Record.{Record}
 use Rattle.record.specs.Read.{bare}
-use Rattle.group.specs.declared.Hit.{Hit}
-use Rattle.group.specs.declared.Hit.TheVariants.{At, Nowhere}
-use Rattle.group.specs.Answers.{found_of, looked_of}
 use Rattle.group.specs.Reading.{read_group}
 use Rattle.group.proofs.Found.{found-whole}
 use Rattle.insertion.proofs.Count.{length-flat, levels-few}
@@ -95,26 +94,25 @@ module _ (b : List ℕ) where
       searched = rw (h, lt-ltb o 256 below)
 
       -- A sound group has at most 512 levels.
-      pub levels_bounded : (x : Hit) (n : ℕ) → looked_of x ≡ levels_to o g → looked_of x ≡ n → n ≤ 512
-      levels_bounded x n e q =
+      pub levels_bounded : (n : ℕ) → n ≡ levels_to o g → n ≤ 512
+      levels_bounded n e =
           let p = group-parts 256 0 g (sound h) in
           omega (arith, levels_to_most o g, levels-few g p.filled, length-flat g, p.limit)
 
-      pub found_at : (x : Hit) (r : Record) (n : ℕ) → found_of x ≡ map bare (holder o (listing g)) → looked_of x ≡ levels_to o g → x ≡ At r n
+      pub found_at : (r : Record) (n : ℕ) → as_option (Some r) ≡ map bare (holder o (listing g)) → n ≡ levels_to o g
           → bit56 + n * bit40 + r.start * bit16 + r.word ≡ finding b o
-      unfolding found_of looked_of hit
-      found_at x r n e l q =
-          let w = found-whole 256 0 o g r (sound h) (ap found_of (sym q) ∙ e) in
+      unfolding as_option hit
+      found_at r n e l =
+          let w = found-whole 256 0 o g r (sound h) e in
           ap (λ (s : Record). bit56 + n * bit40 + s.start * bit16 + s.word) (sym w.numbers)
-          ∙ ap (hit (some w.whole)) (ap looked_of (sym q) ∙ l)
+          ∙ ap (hit (some w.whole)) l
           ∙ ap (λ (a : Option model.Record). hit a (levels_to o g)) (sym w.held)
           ∙ sym searched
 
-      pub found_nowhere : (x : Hit) (n : ℕ) → found_of x ≡ map bare (holder o (listing g)) → looked_of x ≡ levels_to o g → x ≡ Nowhere n
-          → n * bit40 ≡ finding b o
-      unfolding found_of looked_of hit
-      found_nowhere x n e l q =
-          ap (hit none) (ap looked_of (sym q) ∙ l) ∙ ap (λ (a : Option model.Record). hit a (levels_to o g)) (sym (go (holder o (listing g)) (ap found_of (sym q) ∙ e))) ∙ sym searched
+      pub found_nowhere : (n : ℕ) → as_option None ≡ map bare (holder o (listing g)) → n ≡ levels_to o g → n * bit40 ≡ finding b o
+      unfolding as_option hit
+      found_nowhere n e l =
+          ap (hit none) l ∙ ap (λ (a : Option model.Record). hit a (levels_to o g)) (sym (go (holder o (listing g)) e)) ∙ sym searched
         where
           go : (a : Option model.Record) → ◌≡◌ {A = Option Record} none (map bare a) → a ≡ none
           go none k = refl

@@ -1,7 +1,7 @@
 -- A mask filled offset by offset: it has 1 where the test holds, before the offset at hand, and 0 from there on. Assumes nothing.
 use mathlib.Core.Path.{◌≡◌, refl, sym, ap, ◌∙◌}
 use mathlib.Core.List.{List}
-use mathlib.Core.Bool.{Bool, true, false, ◌&&◌}
+use mathlib.Core.Bool.{Bool, true, false, not, ◌&&◌}
 use Prim.Native.Nat.{ℕ, ◌+◌, ◌-◌, ◌%◌, ◌≤◌, ◌<◌}
 use native.Mathlib.Omega.{arith}
 use native.Mathlib.Nat.{mod-eq-zero_of_dvd, dvd-zero}
@@ -9,6 +9,7 @@ use lib.Dec.{leb, ltb, eqb}
 use lib.ListN.{length, get_or, set, replicate, length-set, length-replicate}
 use lib.Seq.{get_or-set_same, get_or-set_other}
 use borrow.Author.Tests.{ltb-true, ltb-false, leb-true, eqb-true, eqb-false, le-leb}
+use Rattle.std.specs.Int.{from_bool}
 use Rattle.model.proofs.Bools.{and_l, and_r, is_false}
 use Rattle.record.specs.Scan.{masked, on_stride}
 use Rattle.record.proofs.Strides.{on_stride_lem, stride_on, step_up, gap}
@@ -19,6 +20,17 @@ use Rattle.probe.specs.Groups.{bit, masked_in, Expected}
 pub blank : Expected (λ o. false) (replicate 256 0)
 unfolding bit
 blank = (length-replicate {A = ℕ} 256 0, λ o h. none_owns o)
+
+-- a test as the code's number
+pub bit-from : (t : Bool) → from_bool t ≡ bit t
+unfolding bit
+bit-from true = refl
+bit-from false = refl
+
+-- 0 where a test fails
+pub none_from : (t : Bool) → eqb (from_bool (not t)) 0 ≡ t
+none_from true = refl
+none_from false = refl
 
 pub record Filling (t : ℕ → Bool) (l : List ℕ) (o : ℕ) : Type 0 where
   pub long : length l ≡ 256

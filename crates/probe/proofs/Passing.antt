@@ -38,13 +38,13 @@ module _ (d : Device) (l p k stop : ℕ) where
 
   -- What the condition gives.
   pub programmable-parts : programmable d l p k stop ≡ true
-      → (within_limits d ≡ true) × (l ≡ spare_length d) × (k < d.M) × (p ≤ d.B) × (stop ≤ entries_per_block d)
+      → (l ≡ spare_length d) × (k < d.M) × (p ≤ d.B) × (stop ≤ entries_per_block d)
   unfolding programmable
   programmable-parts h =
       let a = and_r (within_limits d) _ h in
       let b = and_r (eqb l (spare_length d)) _ a in
       let c = and_r (ltb k d.M) _ b in
-      (and_l _ _ h, eqb-true _ _ (and_l _ _ a), ltb-true _ _ (and_l _ _ b), leb-true _ _ (and_l _ _ c), leb-true _ _ (and_r (leb p d.B) _ c))
+      (eqb-true _ _ (and_l _ _ a), ltb-true _ _ (and_l _ _ b), leb-true _ _ (and_l _ _ c), leb-true _ _ (and_r (leb p d.B) _ c))
 
 -- A block programmed, or left as it is.
 module _ (t : Bool) (d : Device) (written : List ℕ) (k stop : ℕ) (spare : List ℕ) where

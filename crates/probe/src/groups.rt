@@ -1,14 +1,13 @@
 // The functions on one group's bytes. Each checks its condition itself; where that isn't met it answers u64::MAX and changes nothing.
-ghost use Rattle.std.specs.Prelude.{◌≡◌, true, false, not, ℕ, ◌+◌, ◌≤◌, ◌<◌, eqb, length, get_or};
+ghost use Rattle.std.specs.Prelude.{◌≡◌, true, false, ℕ, ◌+◌, ◌≤◌, ◌<◌, eqb, length, get_or};
 ghost use Rattle.record.specs.Coding.{InEight};
 ghost use Rattle.record.specs.Scan.{on_stride};
 ghost use Rattle.group.specs.Layout.{offsets};
 ghost use Rattle.group.specs.Reading.{every_from};
 ghost use Rattle.group.specs.Checking.{approx, shaped};
-ghost use Rattle.probe.specs.Groups.{bit, soundness, is_sound, finding, Compacts, masked_in, Expected, tested, ends_masked, fitting, has_room, insertable, Inserts};
+ghost use Rattle.probe.specs.Groups.{soundness, is_sound, finding, Compacts, masked_in, Expected, tested, ends_masked, fitting, has_room, insertable, Inserts};
 
 use crate::OUTSIDE;
-use group::Hit;
 use record::Record;
 
 // The places of a search's values.
@@ -23,26 +22,17 @@ const BIT56: u64 = 72057594037927936;
 pub extern "C" fn probe_group_sound(part: &[u8], n: u32, k: u32) -> u64
     ensures { result ≡ soundness part.now n k }
 {
-    if part.len() != group::GROUP_BYTES {
+    if part.len() != group::GROUP_BYTES || 4096 < k {
         return OUTSIDE;
     }
-    if 4096 < k {
-        return OUTSIDE;
-    }
-    if group::sound(part, n, k) {
-        return 1;
-    }
-    0
+    u64::from(group::sound(part, n, k))
 }
 
 // Whether the bytes are a sound group 0, with all its logical pages.
 fn is_sound(part: &[u8]) -> bool
     ensures { result ≡ is_sound part.now }
 {
-    if part.len() != group::GROUP_BYTES {
-        return false;
-    }
-    group::sound(part, group::OFFSETS, 0)
+    part.len() == group::GROUP_BYTES && group::sound(part, group::OFFSETS, 0)
 }
 
 // Where offset o is found.
@@ -50,16 +40,15 @@ fn is_sound(part: &[u8]) -> bool
 pub extern "C" fn probe_group_find(part: &[u8], o: u32) -> u64
     ensures { result ≡ finding part.now o }
 {
-    if !is_sound(part) {
+    if !is_sound(part) || group::OFFSETS <= o {
         return OUTSIDE;
     }
-    if group::OFFSETS <= o {
-        return OUTSIDE;
-    }
-    let hit = group::find(part, o);
-    match hit {
-        Hit::At(r, n) => BIT56 + (n as u64) * BIT40 + (r.start as u64) * BIT16 + (r.word as u64),
-        Hit::Nowhere(n) => (n as u64) * BIT40,
+    let descent = group::find(part, o);
+    // Kept: tried: `u64::from`; the proof didn't close, since the ranges of a record's fields are then lost to the sum.
+    let levels = (descent.levels as u64) * BIT40;
+    match descent.held {
+        Some(r) => BIT56 + levels + (r.start as u64) * BIT16 + (r.word as u64),
+        None => levels,
     }
 }
 
@@ -71,17 +60,7 @@ pub extern "C" fn probe_group_compact(part: &mut [u8]) -> u64
     if !is_sound(part) {
         return OUTSIDE;
     }
-    compaction::compact(part) as u64
-}
-
-// 1 where a byte is set.
-fn one_if_set(byte: u8) -> u8
-    ensures { result ≡ bit (not (eqb byte 0)) }
-{
-    if byte == 0 {
-        return 0;
-    }
-    1
+    u64::from(compaction::compact(part))
 }
 
 // The mask of an approximate record with the offsets s to e has 1 at its own.
@@ -89,10 +68,8 @@ fn expect_owned(mask: &[u8], s: usize, e: usize, expected: &mut [u8])
     requires { (length mask.now ≡ offsets) × (e < offsets) × Expected (λ o. false) expected.old }
     ensures { Expected (masked_in mask.now s e) expected.new }
 {
-    let mut o = s;
-    while o <= e {
-        expected[o] = one_if_set(mask[o]);
-        o += 1;
+    for o in s..e + 1 {
+        expected[o] = u8::from(mask[o] != 0);
     }
 }
 
@@ -101,10 +78,8 @@ fn expect_strided(s: usize, d: usize, e: usize, expected: &mut [u8])
     requires { (0 < d) × (d < 65536) × (e < offsets) × Expected (λ o. false) expected.old }
     ensures { Expected (on_stride s d e) expected.new }
 {
-    let mut o = s;
-    while o <= e {
+    for o in (s..e + 1).step_by(d) {
         expected[o] = 1;
-        o += d;
     }
 }
 
@@ -119,23 +94,11 @@ fn expect(r: Record, mask: &[u8], expected: &mut [u8])
     let w = r.word;
     if r.is_approximate() {
         expect_owned(mask, s, e, expected);
-        return;
-    }
-    if w == 0 {
+    } else if w == 0 {
         expect_strided(s, 1, s, expected);
-        return;
+    } else {
+        expect_strided(s, (w / 2) as usize, e, expected);
     }
-    expect_strided(s, (w / 2) as usize, e, expected);
-}
-
-// 1 where two bytes differ.
-fn one_if_other(a: u8, b: u8) -> u8
-    ensures { eqb result 0 ≡ eqb a b }
-{
-    if a == b {
-        return 0;
-    }
-    1
 }
 
 // Whether two masks are the same. Differences are gathered, so that all are compared at once.
@@ -144,10 +107,8 @@ fn same(a: &[u8], b: &[u8]) -> bool
     ensures { result ≡ every_from (λ o. eqb (get_or a.now o 0) (get_or b.now o 0)) offsets 0 }
 {
     let mut any = 0;
-    let mut o = 0;
-    while o < group::OFFSETS as usize {
-        any |= one_if_other(a[o], b[o]);
-        o += 1;
+    for o in 0..group::OFFSETS as usize {
+        any |= u8::from(a[o] != b[o]);
     }
     any == 0
 }
@@ -167,15 +128,11 @@ fn ends_masked(r: Record, mask: &[u8]) -> bool
     requires { (length mask.now ≡ offsets) × (r.start + r.span ≤ 255) }
     ensures { result ≡ ends_masked (approx r) mask.now r }
 {
-    if !r.is_approximate() {
-        return true;
+    if r.is_approximate() {
+        mask[r.start as usize] != 0 && mask[(r.start + r.span) as usize] != 0
+    } else {
+        true
     }
-    let s = r.start as usize;
-    if mask[s] == 0 {
-        return false;
-    }
-    let e = (r.start + r.span) as usize;
-    mask[e] != 0
 }
 
 // Whether the record is one that a sound group may have, and the mask has its members.
@@ -183,23 +140,14 @@ fn fits(r: Record, mask: &[u8]) -> bool
     requires { (length mask.now ≡ offsets) × InEight r }
     ensures { result ≡ fitting mask.now r }
 {
-    if !group::shaped(r, group::OFFSETS) {
-        return false;
-    }
-    if !ends_masked(r, mask) {
-        return false;
-    }
-    all_masked(r, mask)
+    group::shaped(r, group::OFFSETS) && ends_masked(r, mask) && all_masked(r, mask)
 }
 
 // Whether the bytes are a sound group that isn't full.
 fn has_room(part: &[u8]) -> bool
     ensures { result ≡ has_room part.now }
 {
-    if !is_sound(part) {
-        return false;
-    }
-    group::record_count(part) < group::SLOTS
+    is_sound(part) && group::record_count(part) < group::SLOTS
 }
 
 // Whether the record in the eight bytes can be inserted.
@@ -230,5 +178,5 @@ pub extern "C" fn probe_group_insert(part: &mut [u8], eight: &[u8], mask: &[u8])
     }
     let r = record::decode(eight, 0);
     insertion::insert(part, r, mask);
-    group::record_count(part) as u64
+    u64::from(group::record_count(part))
 }

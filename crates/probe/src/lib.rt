@@ -15,6 +15,8 @@ ghost use Rattle.probe.specs.Batches.{sortable, Sorts, learnable, Learns};
 
 use sorting::order::{all_below, ascends};
 
+// What is answered where the condition isn't met.
+// Kept: the C interface: a number and no Option; each exported function ends early with it, and so reads as its condition, then its work.
 pub const OUTSIDE: u64 = 18446744073709551615;
 
 // A batch's pages, and the pages of a device with room beside them.
@@ -92,6 +94,7 @@ fn learn_all(written: &[u32], first: u32, g: u32, out: &mut [u8], taken: &mut [u
 {
     let mut i = 0;
     let mut n = 0;
+    // Kept: no range: a run takes as many pages as it holds, so the place moves on by more than one.
     while i < written.len() {
         let r = learn::runs::run_at(written, i, first, g);
         let learned = r.learned;

@@ -4,17 +4,13 @@ ghost use Rattle.front.specs.Read.{numbers_of};
 ghost use Rattle.probe.specs.Passes.{programmable, Programs};
 
 use crate::OUTSIDE;
-use front::Numbers;
-use front::device::within_limits;
+use front::{Head, Numbers};
 use spare::{entries_per_block, program_block, spare_len};
 
 // Whether a pass over block k can be made with l spare entries, p written pages and this stop.
 fn may_program(d: Numbers, l: usize, p: usize, k: u32, stop: u32) -> bool
     ensures { result ≡ programmable (numbers_of d) l p k stop }
 {
-    if !within_limits(d) {
-        return false;
-    }
     if l != spare_len(d) {
         return false;
     }
@@ -42,7 +38,9 @@ pub extern "C" fn probe_program(
     ensures { Programs (programmable (record { M = m; B = b; N = n; g = g }) (length spare.old) (length written.now) block stop)
         (record { M = m; B = b; N = n; g = g }) written.now block stop spare.old spare.new result }
 {
-    let d = Numbers { m, b, n, g };
+    let Some(d) = Head { m, b, n, g }.checked() else {
+        return OUTSIDE;
+    };
     if !may_program(d, spare.len(), written.len(), block, stop) {
         return OUTSIDE;
     }

@@ -1,12 +1,13 @@
 -- A scan along a stride: its start, and a step past a number that fails the test, up and down. Assumes nothing.
-use mathlib.Core.Path.{◌≡◌, refl, ◌∙◌, ap}
+use mathlib.Core.Path.{◌≡◌, refl, sym, ◌∙◌, ap}
+use mathlib.Core.Option.{Option, some, none, some-injective, none-ne-some}
 use mathlib.Core.Bool.{Bool, true, false}
 use Prim.Native.Nat.{ℕ, ◌+◌, ◌-◌, ◌%◌, ◌≤◌, ◌<◌}
 use native.Mathlib.Omega.{arith}
 use native.Mathlib.Nat.{mod-eq-zero_of_dvd, dvd-zero}
-use lib.Dec.{ltb}
-use borrow.Author.Tests.{ltb-true, ltb-false}
-use Rattle.record.specs.Scan.{Failed, FailedAfter}
+use lib.Dec.{ltb, leb}
+use borrow.Author.Tests.{ltb-true, ltb-false, le-leb, lt-leb, leb-true, leb-false}
+use Rattle.record.specs.Scan.{Failed, FailedAfter, First, FirstFound}
 use Rattle.record.proofs.Strides.{step_up, step_down, room_down, gap}
 
 module _ (t : ℕ → Bool) (d : ℕ) where
@@ -59,3 +60,25 @@ module _ (t : ℕ → Bool) (d : ℕ) where
         go x h k p false false i j =
             let e : x ≡ o = omega (arith, ltb-false o x i, ltb-false x o j) in
             ap t e ∙ n
+
+-- what a search for the first answers, by what it went past, and what is known of it then
+module _ (t : ℕ → Bool) (s d e : ℕ) where
+  pub found_here : (f : ℕ) → Failed t s d f → f ≤ e → t f ≡ true → FirstFound t s d e (some f)
+  found_here f w h q = (f, (w, λ k. q), rw (le-leb f e h))
+
+  pub found_nowhere : (f : ℕ) → Failed t s d f → e < f → FirstFound t s d e none
+  found_nowhere f w h = (f, (w, λ k. absurd (let z : ⊥ = omega arith in z)), rw (lt-leb f e h))
+
+  pub found_some : (f : ℕ) → FirstFound t s d e (some f) → First t s d e f × (f ≤ e)
+  found_some f (g, w, is) = go (leb g e) refl is
+    where
+      go : (b : Bool) → leb g e ≡ b → some f ≡ elim b [ true ↦ some g | false ↦ none ] → First t s d e f × (f ≤ e)
+      go true k q = let same : f ≡ g = some-injective f g q in rw same (w, leb-true g e k)
+      go false k q = absurd (none-ne-some f (sym q))
+
+  pub found_none : FirstFound t s d e none → (f : ℕ) × First t s d e f × (e < f)
+  found_none (g, w, is) = go (leb g e) refl is
+    where
+      go : (b : Bool) → leb g e ≡ b → ◌≡◌ {A = Option ℕ} none (elim b [ true ↦ some g | false ↦ none ]) → (f : ℕ) × First t s d e f × (e < f)
+      go true k q = absurd (none-ne-some g q)
+      go false k q = (g, w, leb-false g e k)

@@ -1,13 +1,9 @@
--- What the code's values stand for: the struct as document 01's record, the enums as what they answer. Assumes nothing.
+-- What the code's values stand for: the struct as document 01's record, and a predicted page as one that there is. Assumes nothing.
 use Rattle.std.specs.Prelude.{◌≡◌, List, Bool, true, false, ℕ, ltb, ℤ, pos, negsuc}
 use Rattle.std.proofs.Math.Option.{Option, none, some}
 use Rattle.model.specs.Lists.{elem}
 use Rattle.model.specs.Record as model
 use Rattle.record.specs.declared.Record.{Record}
-use Rattle.record.specs.declared.Page.{Page}
-use Rattle.record.specs.declared.Page.TheVariants.{At, Outside}
-use Rattle.record.specs.declared.Left.{Left}
-use Rattle.record.specs.declared.Left.TheVariants.{Kept, Gone}
 
 -- the struct, and the offsets that it owns, which it doesn't hold
 abbrev pub as_record : Record → List ℕ → model.Record
@@ -21,17 +17,7 @@ bare r = record { start = r.start; span = r.span; word = r.word; intercept = r.i
 abbrev pub OwnedAs : Record → ℕ → Bool → List ℕ → Type 0
 OwnedAs r o owned L = model.is_approximate (model.kind (as_record r L)) ≡ true → (elem o L ≡ owned) × (owned ≡ true → model.covers (as_record r L) o ≡ true)
 
--- the page that there is, if any
-unfoldable pub page_of : Page → Option ℕ
-page_of (At p) = some p
-page_of Outside = none
-
 -- a predicted page, if it is one of a device's pages
 unfoldable pub existing : ℕ → ℤ → Option ℕ
 existing pages (pos p) = elim (ltb p pages) [ true ↦ some p | false ↦ none ]
 existing pages (negsuc n) = none
-
--- the record that is left, if one is
-unfoldable pub left_of : Left → Option Record
-left_of (Kept r) = some r
-left_of Gone = none

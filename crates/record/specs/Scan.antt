@@ -1,5 +1,6 @@
 -- Masks of 256 bytes, and what a scan of the members by their stride finds. Assumes nothing.
 use Rattle.std.specs.Prelude.{◌≡◌, List, [], Bool, true, false, not, ◌&&◌, ℕ, ◌+◌, ◌-◌, ◌/◌, ◌%◌, ◌≤◌, ◌<◌, leb, eqb, get_or}
+use Rattle.std.proofs.Math.Option.{Option, none, some}
 use Rattle.model.specs.Record.{kind_of, rise, member}
 use Rattle.record.specs.declared.Record.{Record}
 use Rattle.record.specs.Read.{as_record}
@@ -25,6 +26,14 @@ pub record Failed (t : ℕ → Bool) (s d f : ℕ) : Type 0 where
 -- f is the first of s, s + d, .. to e that passes the test, or above e where none does
 abbrev pub First : (ℕ → Bool) → ℕ → ℕ → ℕ → ℕ → Type 0
 First t s d e f = Failed t s d f × (f ≤ e → t f ≡ true)
+
+-- what a search for it answers: the first, or none
+abbrev pub FirstFound : (ℕ → Bool) → ℕ → ℕ → ℕ → Option ℕ → Type 0
+FirstFound t s d e found = (f : ℕ) × First t s d e f × (found ≡ elim (leb f e) [ true ↦ some f | false ↦ none ])
+
+-- what a test may answer of each number from s to e is what t says of it
+abbrev pub Tells : (ℕ → Bool → Type 0) → (ℕ → Bool) → ℕ → ℕ → Type 0
+Tells answers t s e = (o : ℕ) (r : Bool) → s ≤ o → o ≤ e → answers o r → r ≡ t o
 
 -- g is one of f, f + d, .. to e, and those after it fail the test
 pub record FailedAfter (t : ℕ → Bool) (f d e g : ℕ) : Type 0 where

@@ -1,40 +1,27 @@
 // The mapping record by value: its kind, members, predicted page, and what is left of it when members are taken.
 #![tactic(auto)]
 
-ghost use Rattle.std.specs.Prelude.{◌≡◌, Bool, true, false, ◌&&◌, List, [], ℕ, ◌+◌, ◌-◌, ◌<◌, ◌≤◌, ◌%◌, length};
+ghost use Rattle.std.specs.Prelude.{◌≡◌, Bool, true, false, ◌&&◌, List, [], ℕ, ◌+◌, ◌-◌, ◌<◌, ◌≤◌, ◌%◌, length, IfSome};
 ghost use Rattle.std.proofs.Math.Option.{map};
 ghost use Rattle.model.specs.Lists.{select, store};
+ghost use Rattle.model.specs.Options.{as_option};
 ghost use Rattle.model.specs.Record.{kind, is_approximate, covers, member, rise, predict};
 ghost use Rattle.model.specs.Levels.{meets, shrunk_to_any, shrink};
 ghost use Rattle.model.specs.Sound.{sound_record};
-ghost use Rattle.record.specs.Read.{as_record, bare, OwnedAs, page_of, existing, left_of};
-ghost use Rattle.record.specs.Scan.{masked, stays, on_stride, First, Last, Strided};
+ghost use Rattle.record.specs.Read.{as_record, bare, OwnedAs, existing};
+ghost use Rattle.record.specs.Scan.{masked, stays, on_stride, Tells, FirstFound, Last, Strided};
 ghost use Rattle.record.specs.Coding.{record_width, record_at, eight, InEight};
 
 // A record's bytes (docs/LAYOUT.md, 'A slot').
 pub const RECORD_BYTES: usize = 8;
 
 // Start S, span L, word and intercept I: a record that covers the offsets S to S + L.
-#[derive(Clone, Copy)]
+#[derive(Clone, Copy, PartialEq, Eq)]
 pub struct Record {
     pub start: u32,
     pub span: u32,
     pub word: u32,
     pub intercept: i32,
-}
-
-// A predicted page, where there is such a page.
-#[derive(Clone, Copy)]
-pub enum Page {
-    At(u32),
-    Outside,
-}
-
-// What is left of a record.
-#[derive(Clone, Copy)]
-pub enum Left {
-    Kept(Record),
-    Gone,
 }
 
 impl Record {
@@ -58,17 +45,14 @@ impl Record {
         ensures { (L : List ℕ) → OwnedAs self o owned L → result ≡ member (as_record self L) o }
     {
         let x = (o + 256 - self.start) % 256;
-        if self.span < x {
-            return false;
-        }
         let w = self.word;
-        if w % 2 == 1 {
-            return owned;
+        if self.span < x {
+            false
+        } else if w % 2 == 1 {
+            owned
+        } else {
+            w <= 2 || x % (w / 2) == 0
         }
-        if w <= 2 {
-            return true;
-        }
-        x % (w / 2) == 0
     }
 
     // How far the members of a sound record that isn't approximate lie apart.
@@ -76,11 +60,7 @@ impl Record {
         requires { (is_approximate (kind (as_record self [])) ≡ false) × (sound_record 256 0 (as_record self []) ≡ true) }
         ensures { Strided self result }
     {
-        let w = self.word;
-        if w == 0 {
-            return 1;
-        }
-        w / 2
+        if self.word == 0 { 1 } else { self.word / 2 }
     }
 
     // What is added to the intercept at offset o.
@@ -88,15 +68,14 @@ impl Record {
         requires { (self.word ≤ 513) × (o < 256) }
         ensures { (L : List ℕ) → result ≡ rise (kind (as_record self L)) o }
     {
-        let w = self.word;
-        if w == 0 {
-            return 0;
+        let k = self.word / 2;
+        if self.word == 0 {
+            0
+        } else if self.word % 2 == 0 {
+            (o + (k - 1)) / k
+        } else {
+            (k * o + 255) / 256
         }
-        let k = w / 2;
-        if w % 2 == 0 {
-            return (o + (k - 1)) / k;
-        }
-        (k * o + 255) / 256
     }
 
     // The predicted page at offset o; below zero where no page is.
@@ -104,24 +83,20 @@ impl Record {
         requires { (self.word ≤ 513) × (o < 256) }
         ensures { (L : List ℕ) → result ≡ predict (as_record self L) o }
     {
-        let up = self.rise(o);
-        self.intercept as i64 + up as i64
+        i64::from(self.intercept) + i64::from(self.rise(o))
     }
 
     // The predicted page at offset o, if it is one of a device's pages.
-    pub fn page(self, o: u32, pages: u32) -> Page
+    pub fn page(self, o: u32, pages: u32) -> Option<u32>
         requires { (self.word ≤ 513) × (o < 256) }
-        ensures { (L : List ℕ) → page_of result ≡ existing pages (predict (as_record self L) o) }
+        ensures { (L : List ℕ) → as_option result ≡ existing pages (predict (as_record self L) o) }
     {
         let z = self.predict(o);
-        if z < 0 {
-            return Page::Outside;
+        if 0 <= z && z < i64::from(pages) {
+            Some(z as u32)
+        } else {
+            None
         }
-        let p = z as u64;
-        if p < pages as u64 {
-            return Page::At(p as u32);
-        }
-        Page::Outside
     }
 
     // Whether the two ranges meet.
@@ -129,43 +104,39 @@ impl Record {
         ensures { (L K : List ℕ) → result ≡ meets (as_record self L) (as_record other K) }
     {
         if self.start < other.start {
-            return other.start - self.start <= self.span;
+            other.start - self.start <= self.span
+        } else {
+            self.start - other.start <= other.span
         }
-        self.start - other.start <= other.span
     }
 
     // What is left of it: the first and last of the offsets s, s + d, .. to e that stay by the mask, and all between.
-    pub fn shrunk(self, mask: &[u8], s: u32, d: u32, e: u32) -> Left
+    pub fn shrunk(self, mask: &[u8], s: u32, d: u32, e: u32) -> Option<Record>
         requires { (length mask.now ≡ 256) × (0 < d) × (d ≤ 2147483648) × (s ≤ e) × (e ≤ 255) × ((e - s) % d ≡ 0) }
-        ensures { (L : List ℕ) (t : ℕ → Bool) → ((o : ℕ) → o < 256 → t o ≡ (on_stride s d e o && stays mask.now o)) → left_of result ≡ map bare (shrunk_to_any (as_record self L) (select t 256 0)) }
+        ensures { (L : List ℕ) (t : ℕ → Bool) → ((o : ℕ) → o < 256 → t o ≡ (on_stride s d e o && stays mask.now o)) → as_option result ≡ map bare (shrunk_to_any (as_record self L) (select t 256 0)) }
     {
-        let f = first(mask, s, d, e);
-        if e < f {
-            return Left::Gone;
-        }
-        let g = last(mask, f, d, e);
-        let span = g - f;
-        Left::Kept(Record {
-            start: f,
+        let stays = |o: u32| mask[o as usize] == 0;
+        let start = first(stays, s, d, e)?;
+        let span = last(stays, start, d, e) - start;
+        Some(Record {
+            start,
             span,
-            word: self.word,
-            intercept: self.intercept,
+            ..self
         })
     }
 
     // What is left of a single or accurate record without the offsets that the mask takes.
-    pub fn shrink_accurate(self, taken: &[u8]) -> Left
+    pub fn shrink_accurate(self, taken: &[u8]) -> Option<Record>
         requires { (length taken.now ≡ 256) × (self.start + self.span ≤ 255) × (is_approximate (kind (as_record self [])) ≡ false) }
-        ensures { left_of result ≡ map bare (shrink (masked taken.now) (as_record self [])) }
+        ensures { as_option result ≡ map bare (shrink (masked taken.now) (as_record self [])) }
     {
         let s = self.start;
-        let w = self.word;
-        if w == 0 {
-            return self.shrunk(taken, s, 1, s);
+        if self.word == 0 {
+            self.shrunk(taken, s, 1, s)
+        } else {
+            let d = self.word / 2;
+            self.shrunk(taken, s, d, s + (self.span - self.span % d))
         }
-        let d = w / 2;
-        let e = s + (self.span - self.span % d);
-        self.shrunk(taken, s, d, e)
     }
 
     // Stores its eight bytes at p.
@@ -197,37 +168,34 @@ pub fn decode(s: &[u8], p: usize) -> Record
     }
 }
 
-// Whether offset o stays: the mask, of those taken, doesn't have it.
-fn staying(mask: &[u8], o: u32) -> bool
-    requires { (length mask.now ≡ 256) × (o < 256) }
-    ensures { result ≡ stays mask.now o }
+// The first of s, s + d, .. to e that passes the test, if one does.
+pub fn first<F: Fn(u32) -> bool>(test: F, s: u32, d: u32, e: u32) -> Option<u32>
+    requires bounds { (0 < d) × (d ≤ 2147483648) × (e ≤ 255) }
+    requires callable { (o : ℕ) → s ≤ o → o ≤ e → F.pre test o }
+    ensures inside { IfSome result (λ o. (s ≤ o) × (o ≤ e)) }
+    ensures found { (t : ℕ → Bool) → Tells (F.post test) t s e → FirstFound t s d e (as_option result) }
 {
-    mask[o as usize] == 0
-}
-
-// The first of s, s + d, .. to e that stays; above e if none does.
-fn first(mask: &[u8], s: u32, d: u32, e: u32) -> u32
-    requires { (length mask.now ≡ 256) × (0 < d) × (d ≤ 2147483648) × (e ≤ 255) }
-    ensures { First (stays mask.now) s d e result }
-{
+    // Kept: tried and slower: `for o in (s..=e).step_by(..)` has two tests a turn.
     let mut o = s;
     while o <= e {
-        if staying(mask, o) {
-            return o;
+        if test(o) {
+            return Some(o);
         }
         o += d;
     }
-    o
+    None
 }
 
-// The last of f, f + d, .. to e that stays; f does.
-fn last(mask: &[u8], f: u32, d: u32, e: u32) -> u32
-    requires { (length mask.now ≡ 256) × (0 < d) × (f ≤ e) × (e ≤ 255) × ((e - f) % d ≡ 0) × (stays mask.now f ≡ true) }
-    ensures { Last (stays mask.now) f d e result }
+// The last of f, f + d, .. to e that passes the test; f does.
+pub fn last<F: Fn(u32) -> bool>(test: F, f: u32, d: u32, e: u32) -> u32
+    requires bounds { (0 < d) × (f ≤ e) × (e ≤ 255) × ((e - f) % d ≡ 0) }
+    requires callable { (o : ℕ) → f < o → o ≤ e → F.pre test o }
+    ensures { (t : ℕ → Bool) → Tells (F.post test) t f e → t f ≡ true → Last t f d e result }
 {
+    // Kept: tried and slower: `first` of the distance from e; a `for` down by d goes by the iterator.
     let mut o = e;
     while f < o {
-        if staying(mask, o) {
+        if test(o) {
             return o;
         }
         o -= d;

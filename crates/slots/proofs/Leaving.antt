@@ -1,5 +1,6 @@
 -- What is left of a record by the owners of its offsets, and the owners that they get: an approximate record's members are
 -- the offsets of its range whose owner names it. Assumes nothing.
+use Rattle.std.specs.Prelude as code
 use mathlib.Core.Path.{◌≡◌, refl, sym, ap, ◌∙◌}
 use mathlib.Core.List.{List, []}
 use mathlib.Core.Option.{none, some, map}
@@ -10,12 +11,11 @@ use native.Mathlib.Nat.{mod-one}
 use lib.IntN.{ℤ}
 use borrow.Author.Tests.{eqb-true}
 use Rattle.model.specs.Lists.{elem}
+use Rattle.model.specs.Options.{as_option}
 use Rattle.model.specs.Record.{kind_of, is_approximate, member}
 use Rattle.model.specs.Levels.{shrink}
 use Rattle.record.specs.declared.Record.{Record}
-use Rattle.record.specs.declared.Left.{Left}
-use Rattle.record.specs.declared.Left.TheVariants.{Gone}
-use Rattle.record.specs.Read.{as_record, bare, left_of}
+use Rattle.record.specs.Read.{as_record, bare}
 use Rattle.record.specs.Scan.{masked, on_stride, First, Last}
 use Rattle.record.proofs.Words.{odd_of}
 use Rattle.record.proofs.Members.{member-owned}
@@ -36,8 +36,8 @@ abbrev in_slot : Record → Slot
 in_slot r = record { level = 0; held = r }
 
 -- a record that isn't approximate owns nothing, and no owner changes
-pub exact-left : (s taken : List ℕ) (r : Record) (x : Left) → Room s → is_approximate (kind_of r.word) ≡ false
-    → left_of x ≡ map bare (shrink (masked taken) (as_record r [])) → LeftOf s s taken r x
+pub exact-left : (s taken : List ℕ) (r : Record) (x : code.Option Record) → Room s → is_approximate (kind_of r.word) ≡ false
+    → as_option x ≡ map bare (shrink (masked taken) (as_record r [])) → LeftOf s s taken r x
 exact-left s taken r x room exact e =
     let none_owned : owning (owner_of s) r ≡ as_record r [] = ap (as_record r) (owned_other (owner_of s) (in_slot r) exact) in
     record { left = rw none_owned e; room = room; slots = refl; flag = refl; owners = λ o h. sym (owner-exact r x (masked taken o) (owner_of s o) exact) }
@@ -76,9 +76,9 @@ module _ (r : Record) (slope : is_approximate (kind_of r.word) ≡ true) where
     something_left f g z first h last e = some_left (λ o. member (owning w r) o && not (masked taken o)) stay r.start 1 (r.start + r.span) short picks (owning w r) f first g h last z e
 
   -- the pass over the record's range leaves the owners of all others, as none names the record
-  module _ (s t taken : List ℕ) (x : Left) (inside : OwnsInRange (owner_of s) r) where
+  module _ (s t taken : List ℕ) (x : code.Option Record) (inside : OwnsInRange (owner_of s) r) where
     pub owners-left : OwnersPut (λ o w. handed_on r.start (masked taken o) (start_left x) w) s t r.start (r.start + r.span + 1)
-        → left_of x ≡ map bare (shrink (masked taken) (owning (owner_of s) r)) → LeftOf s t taken r x
+        → as_option x ≡ map bare (shrink (masked taken) (owning (owner_of s) r)) → LeftOf s t taken r x
     owners-left put e = record {
       left = e;
       room = put.room;
@@ -88,14 +88,14 @@ module _ (r : Record) (slope : is_approximate (kind_of r.word) ≡ true) where
     }
 
   -- while no offset has an owner, nothing is left of it
-  pub unowned-left : (s taken : List ℕ) → Room s → r.start + r.span ≤ 255 → OwnsInRange (owner_of s) r → flag_of s ≡ 0 → LeftOf s s taken r Gone
-  unfolding left_of
+  pub unowned-left : (s taken : List ℕ) → Room s → r.start + r.span ≤ 255 → OwnsInRange (owner_of s) r → flag_of s ≡ 0 → LeftOf s s taken r code.None
+  unfolding as_option
   unowned-left s taken room short inside off = record {
     left = nothing_left (owner_of s) taken short inside (r.start + r.span + 1) failed (omega arith);
     room = room;
     slots = refl;
     flag = refl;
-    owners = λ o h. sym (owner_other r Gone (masked taken o) (owner_of s o) (λ a. unnamed o));
+    owners = λ o h. sym (owner_other r code.None (masked taken o) (owner_of s o) (λ a. unnamed o));
   }
     where
       unnamed : (o : ℕ) → owner_of s o ≡ suc r.start → ⊥

@@ -1,11 +1,11 @@
 -- The owner that an offset gets, by the owner it had and the mask: one law for each way. Assumes nothing.
+use Rattle.std.specs.Prelude as code
 use mathlib.Core.Path.{◌≡◌, refl, ◌∙◌}
 use mathlib.Core.Bool.{Bool, true, false, not}
 use Prim.Native.Nat.{ℕ, suc}
 use borrow.Author.Tests.{eq-eqb, ne_eqb}
 use Rattle.model.specs.Record.{kind_of, is_approximate}
 use Rattle.record.specs.declared.Record.{Record}
-use Rattle.record.specs.declared.Left.{Left}
 use Rattle.slots.specs.Owners.{either, left_to, handed_on, start_left, owner_left}
 
 -- an owner that names the start is handed on
@@ -19,7 +19,7 @@ module _ (start : ℕ) (taken : Bool) (newStart w : ℕ) where
   on_other n = rw (ne_eqb w (suc start) n, either)
 
 -- an approximate record's owners are handed on, and those of any other stay
-module _ (r : Record) (x : Left) (taken : Bool) (w : ℕ) where
+module _ (r : Record) (x : code.Option Record) (taken : Bool) (w : ℕ) where
   pub owner_sloped : is_approximate (kind_of r.word) ≡ true → owner_left r x taken w ≡ handed_on r.start taken (start_left x) w
   unfolding owner_left either
   owner_sloped a = rw (a, owner_left, either)

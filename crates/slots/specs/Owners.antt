@@ -1,10 +1,9 @@
 -- What the writes do to the owner of an offset: 0, or the start of its record plus 1. Assumes nothing.
+use Rattle.std.specs.Prelude as code
 use Rattle.std.specs.Prelude.{Bool, true, false, not, ◌&&◌, ℕ, suc, eqb}
 use Rattle.model.specs.Record as model
 use Rattle.model.specs.Record.{kind_of, is_approximate}
 use Rattle.record.specs.declared.Record.{Record}
-use Rattle.record.specs.declared.Left.{Left}
-use Rattle.record.specs.declared.Left.TheVariants.{Kept, Gone}
 use Rattle.record.specs.Read.{as_record}
 use Rattle.group.specs.Reading.{owned_as}
 
@@ -32,13 +31,13 @@ unfolding either
 handed_on start taken newStart w = either (owner_is w start) (either taken 0 (suc newStart)) w
 
 -- the start of what is left of a record, if something is
-unfoldable pub start_left : Left → ℕ
-start_left (Kept u) = u.start
-start_left Gone = 0
+unfoldable pub start_left : code.Option Record → ℕ
+start_left (code.Some u) = u.start
+start_left code.None = 0
 
 -- the owner of an offset, when x is left of record r: an approximate record's offsets that are taken name nobody, the
 -- others what is left of it; no other record owns any
-unfoldable pub owner_left : Record → Left → Bool → ℕ → ℕ
+unfoldable pub owner_left : Record → code.Option Record → Bool → ℕ → ℕ
 unfolding either
 owner_left r x taken w = either (is_approximate (kind_of r.word)) (handed_on r.start taken (start_left x) w) w
 

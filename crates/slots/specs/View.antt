@@ -1,11 +1,12 @@
 -- What the functions on a group's bytes speak of: its used slots, and the owners of its offsets. Assumes nothing.
+use Rattle.std.specs.Prelude as code
 use Rattle.std.specs.Prelude.{◌≡◌, List, true, ℕ, suc, ◌+◌, ◌≤◌, ◌<◌, length}
 use Rattle.std.proofs.Math.Option.{map}
 use Rattle.model.specs.Device.{group_length}
+use Rattle.model.specs.Options.{as_option}
 use Rattle.model.specs.Record.{kind_of, is_approximate}
 use Rattle.record.specs.declared.Record.{Record}
-use Rattle.record.specs.declared.Left.{Left}
-use Rattle.record.specs.Read.{bare, left_of}
+use Rattle.record.specs.Read.{bare}
 use Rattle.record.specs.Scan.{masked}
 use Rattle.group.specs.declared.Slot.{Slot}
 use Rattle.model.specs.Levels.{group_limit, shrink}
@@ -45,8 +46,8 @@ abbrev pub OwnsInRange : (ℕ → ℕ) → Record → Type 0
 OwnsInRange w r = is_approximate (kind_of r.word) ≡ true → (o : ℕ) → o < offsets → w o ≡ suc r.start → (r.start ≤ o) × (o ≤ r.start + r.span)
 
 -- a record of the group lost the offsets taken, and x is left of it; no slot is touched yet
-pub record LeftOf (s t taken : List ℕ) (r : Record) (x : Left) : Type 0 where
-  pub left : left_of x ≡ map bare (shrink (masked taken) (owning (owner_of s) r))
+pub record LeftOf (s t taken : List ℕ) (r : Record) (x : code.Option Record) : Type 0 where
+  pub left : as_option x ≡ map bare (shrink (masked taken) (owning (owner_of s) r))
   pub room : Room t
   pub slots : slots_of t ≡ slots_of s
   pub flag : flag_of t ≡ flag_of s

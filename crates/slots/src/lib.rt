@@ -12,7 +12,7 @@ ghost use Rattle.group.specs.Layout.{used_of, slots_from, slots_of, owner_of, sl
 ghost use Rattle.group.specs.Answers.{no_slot};
 ghost use Rattle.slots.specs.Coding.{ten, InTen};
 ghost use Rattle.slots.specs.View.{Room, Shows};
-ghost use Rattle.slots.specs.Edits.{replace_at, at_level, push_down_from, can_go_down, renumbered, renumber_levels};
+ghost use Rattle.slots.specs.Edits.{replace_at, at_level, push_down_from, can_go_down, renumber_levels};
 
 use group::{LEVEL_AT, SLOT_BYTES, SLOTS_AT, Slot, USED_AT};
 
@@ -111,23 +111,10 @@ pub fn push_down(b: &mut [u8], i: u32)
     ensures { Shows b.new (push_down_from i (slots_of b.old)) (owner_of b.old) }
 {
     let n = used(b);
-    let mut j = i;
-    while j < n {
+    for j in i..n {
         let l = level(b, j);
         relevel(b, j, l + 1);
-        j += 1;
     }
-}
-
-// The new number of a level behind the level `old`, which got the number `new`.
-fn renumber(old: u32, new: u32, l: u32) -> u32
-    requires { new < group_limit }
-    ensures { (result ≡ renumbered old new l) × (result ≤ new + 1) }
-{
-    if l == old {
-        return new;
-    }
-    new + 1
 }
 
 // Numbers the levels anew, so that none but level 0 is missing.
@@ -138,12 +125,12 @@ pub fn renumber_levels(b: &mut [u8])
     let n = used(b);
     let mut old = 0;
     let mut new = 0;
-    let mut k = 0;
-    while k < n {
+    for k in 0..n {
         let l = level(b, k);
-        new = renumber(old, new, l);
+        if l != old {
+            new += 1;
+        }
         old = l;
         relevel(b, k, new);
-        k += 1;
     }
 }

@@ -2,13 +2,13 @@
 ghost use Rattle.std.specs.Prelude.{◌≡◌, true, ℕ, ◌+◌, ◌<◌, ◌≤◌, length};
 ghost use Rattle.model.specs.Device.{group_length};
 ghost use Rattle.model.specs.Record.{kind_of, is_approximate};
-ghost use Rattle.record.specs.Scan.{masked, First, Last};
+ghost use Rattle.record.specs.Scan.{masked};
 ghost use Rattle.group.specs.Layout.{offsets, slots_of, owner_of};
 ghost use Rattle.slots.specs.View.{Room, Shows, Owned, OwnerPut, OwnersPut, OwnsInRange, LeftOf};
 ghost use Rattle.slots.specs.Owners.{taken_by, handed_on, left_to};
 
 use group::{OFFSETS, OWNED_AT, OWNER_BYTES, OWNERS_AT};
-use record::{Left, Record};
+use record::Record;
 
 // The owner of offset o, where owners are read.
 pub fn owner(b: &[u8], o: u32) -> u32
@@ -31,58 +31,7 @@ fn stays(b: &[u8], start: u32, taken: &[u8], o: u32) -> bool
     requires { (length b.now ≡ group_length) × Owned b.now × (start < offsets) × (length taken.now ≡ offsets) × (o < offsets) }
     ensures { result ≡ left_to start (masked taken.now o) (owner_of b.now o) }
 {
-    if owner(b, o) != start + 1 {
-        return false;
-    }
-    if taken[o as usize] != 0 {
-        return false;
-    }
-    true
-}
-
-// The first offset from `start` to e that stays; above e if none does.
-fn first(b: &[u8], start: u32, e: u32, taken: &[u8]) -> u32
-    requires { (length b.now ≡ group_length) × Owned b.now × (start < offsets) × (e < offsets) × (length taken.now ≡ offsets) }
-    ensures { First (λ (o : ℕ). left_to start (masked taken.now o) (owner_of b.now o)) start 1 e result }
-{
-    let mut o = start;
-    while o <= e {
-        if stays(b, start, taken, o) {
-            return o;
-        }
-        o += 1;
-    }
-    o
-}
-
-// The last offset from f to e that stays; f does.
-fn last(b: &[u8], start: u32, f: u32, e: u32, taken: &[u8]) -> u32
-    requires { (length b.now ≡ group_length) × Owned b.now × (start < offsets) × (f ≤ e) × (e < offsets) × (length taken.now ≡ offsets)
-        × (left_to start (masked taken.now f) (owner_of b.now f) ≡ true) }
-    ensures { Last (λ (o : ℕ). left_to start (masked taken.now o) (owner_of b.now o)) f 1 e result }
-{
-    let mut o = e;
-    while f < o {
-        if stays(b, start, taken, o) {
-            return o;
-        }
-        o -= 1;
-    }
-    o
-}
-
-// The owner of an offset that had w, when the record that started at `start` starts at `to`.
-fn handed(w: u32, start: u32, taken: bool, to: u32) -> u32
-    requires { (w < 65536) × (start < offsets) × (to < offsets) }
-    ensures { (result ≡ handed_on start taken to w) × (result < 65536) }
-{
-    if w != start + 1 {
-        return w;
-    }
-    if taken {
-        return 0;
-    }
-    to + 1
+    owner(b, o) == start + 1 && taken[o as usize] == 0
 }
 
 // Names the owners of the offsets from `start` to before `end` anew: those taken have none, the record's others `to`.
@@ -90,51 +39,49 @@ fn hand_on(b: &mut [u8], start: u32, end: u32, taken: &[u8], to: u32)
     requires { Room b.old × Owned b.old × (start ≤ end) × (end ≤ offsets) × (start < offsets) × (length taken.now ≡ offsets) × (to < offsets) }
     ensures { OwnersPut (λ o w. handed_on start (masked taken.now o) to w) b.old b.new start end }
 {
-    let mut o = start;
-    while o < end {
+    for o in start..end {
         let w = owner(b, o);
-        let v = handed(w, start, taken[o as usize] != 0, to);
+        let goes = taken[o as usize] != 0;
+        let heir = if goes { 0 } else { to + 1 };
+        let v = if w == start + 1 { heir } else { w };
         set_owner(b, o, v);
-        o += 1;
     }
 }
 
 // What is left of an approximate record of the group.
-fn left_of_owner(b: &mut [u8], r: Record, taken: &[u8]) -> Left
+fn left_of_owner(b: &mut [u8], r: Record, taken: &[u8]) -> Option<Record>
     requires { Room b.old × Owned b.old × (r.start + r.span ≤ 255) × (length taken.now ≡ offsets)
         × (is_approximate (kind_of r.word) ≡ true) × OwnsInRange (owner_of b.old) r }
     ensures { LeftOf b.old b.new taken.now r result }
 {
     let start = r.start;
     let e = start + r.span;
-    let f = first(b, start, e, taken);
-    if e < f {
+    let stays = |o: u32| stays(b, start, taken, o);
+    let Some(f) = record::first(stays, start, 1, e) else {
         hand_on(b, start, e + 1, taken, 0);
-        return Left::Gone;
-    }
-    let g = last(b, start, f, e, taken);
+        return None;
+    };
+    let span = record::last(stays, f, 1, e) - f;
     hand_on(b, start, e + 1, taken, f);
-    let span = g - f;
-    Left::Kept(Record {
+    Some(Record {
         start: f,
         span,
-        word: r.word,
-        intercept: r.intercept,
+        ..r
     })
 }
 
 // What is left of a record of the group without the offsets taken; an approximate one gives up their ownership.
-pub fn left_of(b: &mut [u8], r: Record, taken: &[u8]) -> Left
+pub fn left_of(b: &mut [u8], r: Record, taken: &[u8]) -> Option<Record>
     requires { Room b.old × (r.start + r.span ≤ 255) × (length taken.now ≡ offsets) × OwnsInRange (owner_of b.old) r }
     ensures { LeftOf b.old b.new taken.now r result }
 {
     if !r.is_approximate() {
-        return r.shrink_accurate(taken);
+        r.shrink_accurate(taken)
+    } else if group::flag(b) == 0 {
+        None
+    } else {
+        left_of_owner(b, r, taken)
     }
-    if group::flag(b) == 0 {
-        return Left::Gone;
-    }
-    left_of_owner(b, r, taken)
 }
 
 // Leaves every offset without an owner, where owners are read.
@@ -142,10 +89,8 @@ fn clear(b: &mut [u8])
     requires { Room b.old × Owned b.old }
     ensures { OwnersPut (λ o w. 0) b.old b.new 0 offsets }
 {
-    let mut o = 0;
-    while o < OFFSETS {
+    for o in 0..OFFSETS {
         set_owner(b, o, 0);
-        o += 1;
     }
 }
 
@@ -154,22 +99,10 @@ fn open_owners(b: &mut [u8])
     requires { Room b.old }
     ensures { Shows b.new (slots_of b.old) (owner_of b.old) × Owned b.new }
 {
-    if group::flag(b) != 0 {
-        return;
+    if group::flag(b) == 0 {
+        octets::put_u16(b, OWNED_AT, 1);
+        clear(b);
     }
-    octets::put_u16(b, OWNED_AT, 1);
-    clear(b);
-}
-
-// The owner of an offset that had w: the start plus 1, where it is taken.
-fn owned(w: u32, start: u32, taken: bool) -> u32
-    requires { (w < 65536) × (start < offsets) }
-    ensures { (result ≡ taken_by start taken w) × (result < 65536) }
-{
-    if taken {
-        return start + 1;
-    }
-    w
 }
 
 // Gives the offsets of the mask from `start` to before `end` to the record that starts at `start`, where owners are read.
@@ -177,12 +110,10 @@ fn own_from(b: &mut [u8], start: u32, end: u32, mask: &[u8])
     requires { Room b.old × Owned b.old × (start ≤ end) × (end ≤ offsets) × (start < offsets) × (length mask.now ≡ offsets) }
     ensures { OwnersPut (λ o w. taken_by start (masked mask.now o) w) b.old b.new start end }
 {
-    let mut o = start;
-    while o < end {
+    for o in start..end {
         let w = owner(b, o);
-        let v = owned(w, start, mask[o as usize] != 0);
+        let v = if mask[o as usize] != 0 { start + 1 } else { w };
         set_owner(b, o, v);
-        o += 1;
     }
 }
 

@@ -76,17 +76,16 @@ module _ (d : Device) (w : List ℕ) (z : ℕ) (fits : length w + entries_per_pa
   pub passed : (k stop n b : ℕ) (s around left done : List ℕ) (r : ℕ) → length w ≤ d.B → stop ≤ entries_per_block d → n ≡ entries_per_page d → b ≡ entries_per_block d
       → around ≡ store (replicate z nobody) d.g (take (length w) (drop 0 w))
       → Programmed around (length w) n (k * b) stop s left r
-      → done ≡ store left (k * b + length w * n) (replicate (k * b + length w * n + r - (k * b + length w * n)) nobody) → done ≡ pass_block d w k stop s
+      → done ≡ store left (k * b + length w * n) (replicate r nobody) → done ≡ pass_block d w k stop s
   unfolding pass_block block_entries
   passed k stop n b s around left done r h l e f y p q =
       let c : ℕ = (d.B - length w) * entries_per_page d in
       let all : length w * n ≡ length w * entries_per_page d = ap (λ (x : ℕ). length w * x) e in
       let more : r ≤ c = omega (arith, p.0, all, in_block d w h) in
-      let width : k * b + length w * n + r - (k * b + length w * n) ≡ r = omega arith in
       let named : around ≡ surrounded d w z = y ∙ ap (λ (v : List ℕ). store (replicate z nobody) d.g v) (take-length w) in
       let ruled : rows around n 0 (length w) ≡ pages_entries d w 0 (length w) = rw (named, e) (rows_ruled 0 (length w) (omega arith)) in
       let size : length (pages_entries d w 0 (length w)) ≡ length w * n = length-pages d w 0 (length w) ∙ sym all in
       let whole : store s (k * b) (take stop (pages_entries d w 0 (length w) ++ replicate c nobody)) ≡ done =
       stopped_append s (k * b) stop (pages_entries d w 0 (length w)) (replicate c nobody)
-      ∙ rw (size, ← p.0, take-replicate r c nobody more, ← ruled, ← p.1) (sym (q ∙ rw width refl)) in
+      ∙ rw (size, ← p.0, take-replicate r c nobody more, ← ruled, ← p.1) (sym q) in
       sym whole ∙ ap (λ (x : ℕ). store s (k * x) (take stop (pages_entries d w 0 (length w) ++ replicate c nobody))) f

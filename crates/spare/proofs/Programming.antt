@@ -4,7 +4,6 @@ use mathlib.Core.List.{List, ◌++◌}
 use mathlib.Core.Bool.{Bool, true, false}
 use Prim.Native.Nat.{ℕ, zero, suc, ◌+◌, ◌*◌, ◌-◌, ◌≤◌, ◌<◌}
 use native.Mathlib.Omega.{arith}
-use native.Mathlib.Nat.{mul-le-mul_right}
 use lib.Dec.{ltb}
 use lib.ListN.{length, get_or, set, take, drop, length-drop, length-take}
 use lib.Seq.{drop-cons, take_all, take-nil, take-append-le, take-append-add, take-take, length-take-le}
@@ -56,39 +55,35 @@ put_some s l at left m h = (omega arith, rw (take-take left m l (omega arith)) r
 pub put_all : (s l : List ℕ) (at left m : ℕ) → m ≤ left → store s at (take m l) ≡ store s at (take left (take m l))
 put_all s l at left m h = rw (take_all left (take m l) (omega (arith, length-take m l))) refl
 
--- What is left to write at page i, place at, where so many more may be written; lent is what there was at the first page.
-pub record Left (around : List ℕ) (pages n a stop : ℕ) (lent now : List ℕ) (left at i : ℕ) : Type 0 where
+-- What is left to write from page i on, where so many more may be written; lent is what there was at the first page.
+pub record Left (around : List ℕ) (pages n a stop : ℕ) (lent now : List ℕ) (left i : ℕ) : Type 0 where
   pub width : pages + n ≤ length around + 1
   pub before : i ≤ pages
-  pub place : at ≡ a + i * n
   pub count : left ≡ stop - i * n
-  pub same : store lent a (take stop (rows around n 0 pages)) ≡ store now at (take left (rows around n i (pages - i)))
+  pub same : store lent a (take stop (rows around n 0 pages)) ≡ store now (a + i * n) (take left (rows around n i (pages - i)))
 
-pub left-start : (around : List ℕ) (pages n a stop : ℕ) (lent : List ℕ) → pages + n ≤ length around + 1 → Left around pages n a stop lent lent stop a 0
+pub left-start : (around : List ℕ) (pages n a stop : ℕ) (lent : List ℕ) → pages + n ≤ length around + 1 → Left around pages n a stop lent lent stop 0
 left-start around pages n a stop lent h =
     let z : pages - 0 ≡ pages = omega arith in
-    record { width = h; before = omega arith; place = omega arith; count = omega arith; same = rw z refl }
+    let e : a + 0 * n ≡ a = omega arith in
+    record { width = h; before = omega arith; count = omega arith; same = rw (z, e) refl }
 
-module _ {around : List ℕ} {pages n a stop : ℕ} {lent s : List ℕ} {left at i : ℕ} (v : Left around pages n a stop lent s left at i) where
-  -- page i's entries lie before the last page's end, and what lies around has them
-  pub left-fits : i < pages → (at + n ≤ a + pages * n) × (i + n ≤ length around)
-  left-fits h = (omega (arith, v.place, mul-le-mul_right n h), omega (arith, v.width))
-
+module _ {around : List ℕ} {pages n a stop : ℕ} {lent s : List ℕ} {left i : ℕ} (v : Left around pages n a stop lent s left i) where
   -- a page is written
-  pub left-turn : (u : List ℕ) (r : ℕ) → i < pages → r ≡ left - n → u ≡ store s at (take left (take n (drop i around))) → Left around pages n a stop lent u r (at + n) (i + 1)
+  pub left-turn : (u : List ℕ) (r : ℕ) → i < pages → r ≡ left - n → u ≡ store s (a + i * n) (take left (take n (drop i around))) → Left around pages n a stop lent u r (i + 1)
   unfolding rows
   left-turn u r h c y =
       let f : i + 1 ≡ suc i = omega arith in
       let m : pages - i ≡ suc (pages - suc i) = omega arith in
+      let next : a + suc i * n ≡ a + i * n + n = omega arith in
       let long : length (take n (drop i around)) ≡ n = length-take-le n (drop i around) (rw length-drop (omega (arith, v.width))) in
-      let turn : store s at (take left (rows around n i (pages - i))) ≡ store u (at + n) (take r (rows around n (suc i) (pages - suc i))) =
-      rw (m, stopped_append s at left (take n (drop i around)), long, y, c) refl in
+      let turn : store s (a + i * n) (take left (rows around n i (pages - i))) ≡ store u (a + i * n + n) (take r (rows around n (suc i) (pages - suc i))) =
+      rw (m, stopped_append s (a + i * n) left (take n (drop i around)), long, y, c) refl in
       record {
         width = v.width;
         before = omega arith;
-        place = omega (arith, v.place);
         count = omega (arith, v.count, c);
-        same = v.same ∙ rw f turn;
+        same = v.same ∙ rw (f, next) turn;
       }
 
   -- every page is written
@@ -97,13 +92,9 @@ module _ {around : List ℕ} {pages n a stop : ℕ} {lent s : List ℕ} {left at
   left_end h =
       let f : i ≡ pages = omega (arith, v.before) in
       let z : pages - i ≡ 0 = omega arith in
-      (rw (← f) v.count, sym (v.same ∙ rw (z, take-nil) (store_nil s at)))
+      (rw (← f) v.count, sym (v.same ∙ rw (z, take-nil) (store_nil s (a + i * n))))
 
--- where the number of entries a page is known, its pages have as much room, ..
-pub at_room : (pages n m a l : ℕ) → n ≡ m → a + pages * n ≤ l → a + pages * m ≤ l
-at_room pages n m a l h p = rw (← h) p
-
--- .. as many may be written after them, ..
+-- where the number of entries a page is known, as many may be written after them, ..
 pub at_count : (pages n m stop r : ℕ) → n ≡ m → r ≡ stop - pages * m → r ≡ stop - pages * n
 at_count pages n m stop r h p = rw h p
 
@@ -112,11 +103,7 @@ pub at_width : (around : List ℕ) (pages n m a stop : ℕ) (lent left : List �
     → left ≡ store lent a (take stop (rows around m 0 pages)) → left ≡ store lent a (take stop (rows around n 0 pages))
 at_width around pages n m a stop lent left h p = rw h p
 
--- One entry a page: their room, ..
-pub single-room : (pages n a l : ℕ) → n ≡ 1 → a + pages * n ≤ l → a + pages ≤ l
-single-room pages n a l h p = omega (arith, at_room pages n 1 a l h p)
-
--- .. how many may be written after them, ..
+-- One entry a page: how many may be written after them, ..
 pub single-count : (pages n stop r : ℕ) → n ≡ 1 → r ≡ stop - pages → r ≡ stop - pages * n
 single-count pages n stop r h p = at_count pages n 1 stop r h (omega (arith, p))
 

@@ -1,7 +1,7 @@
 -- Within the limits every number that the code computes is small, and an entry's place lies in the spare area. Assumes nothing.
 use mathlib.Core.Path.{◌≡◌, refl}
 use mathlib.Core.Bool.{true}
-use Prim.Native.Nat.{ℕ, ◌+◌, ◌*◌, ◌≤◌, ◌<◌}
+use Prim.Native.Nat.{ℕ, ◌+◌, ◌*◌, ◌-◌, ◌≤◌, ◌<◌}
 use native.Mathlib.Omega.{arith}
 use native.Mathlib.Nat.{mul-le-mul, mul-le-mul_right}
 use Rattle.model.specs.Device.{Device, within_limits, pages, first_page, names_per_page, entries_per_page, entries_per_block, spare_length}
@@ -50,6 +50,13 @@ entry-inside d p j n e h k = rw e (omega (arith, mul-le-mul_right (entries_per_p
 -- the entries of block k, n to a block
 pub block_entries-inside : (d : Device) (k n : ℕ) → n ≡ entries_per_block d → k < d.M → k * n + n ≤ spare_length d
 block_entries-inside d k n e h = rw e (block_in_spare d k h)
+
+-- the entries of w pages of block k, n to a page, and behind them as many as are left of a stop
+pub programmed-inside : (d : Device) (k n w stop r : ℕ) → n ≡ entries_per_page d → k < d.M → w ≤ d.B → stop ≤ entries_per_block d → r ≤ stop - w * n
+    → k * (d.B * n) + w * n + r ≤ spare_length d
+programmed-inside d k n w stop r e h f g l =
+    let size = block_size d n e in
+    omega (arith, size, block_entries-inside d k (d.B * n) size h, mul-le-mul_right n f)
 
 -- page i of block k
 pub page-small : (d : Device) (k i : ℕ) → within_limits d ≡ true → k < d.M → i < d.B → k * d.B + i < 1048576

@@ -16,8 +16,7 @@ use Rattle.model.proofs.Bools.{and_l}
 use Rattle.model.proofs.SoundGroups.{group_sound}
 use Rattle.octets.proofs.Stores.{lent_back}
 use Rattle.front.specs.Reading.{numbers_at}
-use Rattle.group.specs.Reading.{encodes, read_group, SoundBytes}
-use Rattle.group.proofs.Soundness.{sound-encodes}
+use Rattle.group.specs.Reading.{read_group}
 use Rattle.state.specs.Regions.{group_region, cell}
 use Rattle.state.specs.Reading.{group_place, read_state}
 use Rattle.state.specs.Outside.{SameOutside}
@@ -79,14 +78,6 @@ module _ (d : Device) (s : List ℕ) (h : Shaped d (read_state s)) (k a e : ℕ)
       let next : group_place d (suc k) ≡ a + (e - a) = omega (arith, group_next d k, start, end) in
       let there : group_place (numbers_at s) (suc k) ≡ a + (e - a) = ap (λ (c : Device). group_place c (suc k)) (numbers_are d s h) ∙ next in
       record { before = rw here (before-part s t a (e - a) low n); behind = rw there (behind-part s t a (e - a) low n) }
-
--- a sound group's part is read as one, and encodes it
-module _ (s : List ℕ) (k a e N : ℕ) (l : GroupPart s k a e) (q : sound_group N k (group_at (read_state s) k) ≡ true) where
-  pub part_sound : SoundBytes (take (e - a) (drop a s))
-  part_sound = record { pages = N; number = k; sound = ap (sound_group N k) l.group ∙ q }
-
-  pub part-encodes : encodes (take (e - a) (drop a s)) ≡ true
-  part-encodes = sound-encodes _ _ _ part_sound.sound
 
 -- whether the groups from k on are sound
 unfoldable pub groups_sound : State → ℕ → ℕ → Bool

@@ -1,8 +1,10 @@
 -- The marks of the state as the code changes them: one set, or some cleared one after the other. Assumes nothing.
-use mathlib.Core.Path.{◌≡◌, sym, ap, ◌∙◌}
+use mathlib.Core.Path.{◌≡◌, refl, sym, ap, ◌∙◌}
 use mathlib.Core.List.{List}
-use mathlib.Core.Bool.{true, false}
+use mathlib.Core.Bool.{Bool, true, false}
 use Prim.Native.Nat.{ℕ, suc, ◌+◌, ◌/◌, ◌≤◌, ◌<◌}
+use native.Mathlib.Omega.{arith}
+use mir.Val.{bool_byte}
 use native.Mathlib.Numerals.{add-one}
 use lib.ListN.{length, get_or, drop, drop_of_length-le}
 use lib.Seq.{drop-cons}
@@ -10,6 +12,15 @@ use Rattle.model.specs.Marks.{mark_byte, is_marked, mark, unmark, unmark_all}
 use Rattle.model.specs.State.{State, with_marks}
 use Rattle.model.proofs.Marks.{zero_unmarked, mark-again, unmark-again}
 use Rattle.calls.specs.Flush.{clear_marks}
+
+-- a test is counted as 1 at most, and as 0 where it fails
+pub counted : (t : Bool) (n : ℕ) → n ≡ bool_byte t → n ≤ 1
+counted true n e = omega arith
+counted false n e = omega arith
+
+pub uncounted : (t : Bool) (n : ℕ) → n ≡ bool_byte t → n ≡ 0 → t ≡ false
+uncounted true n e z = absurd (omega arith)
+uncounted false n e z = refl
 
 -- the same marks are the same state
 pub marks_stay : (s : State) (ms : List ℕ) → ms ≡ s.marks → s ≡ with_marks ms s
@@ -23,10 +34,10 @@ marked-stays s x e = marks_stay s _ (mark-again x s.marks e)
 pub unmarked_stays : (s : State) (x : ℕ) → is_marked s.marks x ≡ false → s ≡ with_marks (unmark x s.marks) s
 unmarked_stays s x e = marks_stay s _ (unmark-again x s.marks e)
 
--- where byte b of page x's mark is 0, no page with its mark in it is marked
-pub byte_unmarked : (ms : List ℕ) (x b : ℕ) → b ≡ get_or ms (x / 8) 0 → b ≡ 0 → (y : ℕ) → y / 8 ≡ x / 8 → is_marked ms y ≡ false
+-- where byte k of the marks is 0, no page with its mark in it is marked
+pub byte_unmarked : (ms : List ℕ) (k b : ℕ) → b ≡ get_or ms k 0 → b ≡ 0 → (y : ℕ) → y / 8 ≡ k → is_marked ms y ≡ false
 unfolding mark_byte
-byte_unmarked ms x b e z y same = zero_unmarked ms y (ap (λ (k : ℕ). get_or ms k 0) same ∙ sym e ∙ z)
+byte_unmarked ms k b e z y here = zero_unmarked ms y (ap (λ (i : ℕ). get_or ms i 0) here ∙ sym e ∙ z)
 
 -- clearing is no work for a page that isn't marked, at place i
 pub unmarked_on : (l ms : List ℕ) (i : ℕ) → i < length l → is_marked ms (get_or l i 0) ≡ false → unmark_all (drop i l) ms ≡ unmark_all (drop (i + 1) l) ms

@@ -1,8 +1,8 @@
 -- The forecasts of marked logical pages become 0 one after the other, and bytes without marks say that none is. Assumes nothing.
-use mathlib.Core.Path.{◌≡◌, refl, sym, ◌∙◌}
+use mathlib.Core.Path.{◌≡◌, refl, ◌∙◌}
 use mathlib.Core.List.{List}
-use mathlib.Core.Bool.{Bool, true, false, true≢false}
-use Prim.Native.Nat.{ℕ, ◌+◌, ◌/◌, ◌%◌, ◌≤◌, ◌<◌}
+use mathlib.Core.Bool.{Bool, true, false}
+use Prim.Native.Nat.{ℕ, ◌+◌, ◌/◌, ◌≤◌, ◌<◌}
 use native.Mathlib.Omega.{arith}
 use lib.Dec.{ltb}
 use lib.ListN.{length, get_or, set}
@@ -11,20 +11,20 @@ use Rattle.model.specs.Marks.{is_marked}
 use Rattle.record.proofs.Renewing.{Renewed, renewed_start, renewed_turn}
 use Rattle.state.specs.Telling.{MarkedOut}
 
--- none of the o logical pages from x on is marked
-abbrev pub NoneTo : List ℕ → ℕ → ℕ → Type 0
-NoneTo ms x o = (i : ℕ) → i < o → is_marked ms (x + i) ≡ false
+-- none of the logical pages whose marks are in the bytes from i up to before k is marked
+abbrev pub NoneIn : List ℕ → ℕ → ℕ → Type 0
+NoneIn ms i k = (y : ℕ) → i ≤ y / 8 → y / 8 < k → is_marked ms y ≡ false
 
-pub none_start : (ms : List ℕ) (x : ℕ) → NoneTo ms x 0
-none_start ms x i a = absurd (omega arith)
+pub in_start : (ms : List ℕ) (i : ℕ) → NoneIn ms i i
+in_start ms i y a b = absurd (omega arith)
 
 -- nor is one of the next byte
-pub none_on : (ms : List ℕ) (x o : ℕ) → x % 8 ≡ 0 → o % 8 ≡ 0 → NoneTo ms x o → ((y : ℕ) → y / 8 ≡ (x + o) / 8 → is_marked ms y ≡ false) → NoneTo ms x (o + 8)
-none_on ms x o first start so here i a = go (ltb i o) refl
+pub in_on : (ms : List ℕ) (i k : ℕ) → NoneIn ms i k → ((y : ℕ) → y / 8 ≡ k → is_marked ms y ≡ false) → NoneIn ms i (k + 1)
+in_on ms i k so here y a b = go (ltb (y / 8) k) refl
   where
-    go : (t : Bool) → ltb i o ≡ t → is_marked ms (x + i) ≡ false
-    go true e = so i (ltb-true i o e)
-    go false e = let more : o ≤ i = ltb-false i o e in here (x + i) (omega arith)
+    go : (t : Bool) → ltb (y / 8) k ≡ t → is_marked ms y ≡ false
+    go true e = so y a (ltb-true (y / 8) k e)
+    go false e = let more : k ≤ y / 8 = ltb-false (y / 8) k e in here y (omega arith)
 
 module _ (ms : List ℕ) (x : ℕ) (l : List ℕ) where
   -- what becomes of the forecast of page x + i
@@ -43,7 +43,3 @@ module _ (ms : List ℕ) (x : ℕ) (l : List ℕ) where
 
   pub out-end : (m : ℕ) (k : List ℕ) (o : ℕ) → OutSo k o → m ≤ o → MarkedOut ms x m l k
   out-end m k o so past = record { long = so.long; marked = λ i a. (so.done i (omega arith)).0; kept = λ i a. (so.done i (omega arith)).1 }
-
-  -- where none is marked, nothing is to do
-  pub none_out : (m : ℕ) → NoneTo ms x m → MarkedOut ms x m l l
-  none_out m none = record { long = refl; marked = λ i a e. absurd (true≢false (sym e ∙ none i a)); kept = λ i a e. refl }

@@ -23,9 +23,11 @@ use Rattle.calls.proofs.Refusing.{none_some}
 use Rattle.record.specs.Read.{as_record, bare, existing}
 use Rattle.record.specs.declared.Record as code
 use Rattle.group.proofs.Found.{Found, found-whole}
-use Rattle.answers.specs.declared.Lookup.{Lookup}
-use Rattle.answers.specs.declared.Lookup.TheVariants as lookup
-use Rattle.answers.specs.Answers.{lookup_answer, as_looked}
+use Rattle.std.specs.Prelude.{Result, Ok, Err}
+use Rattle.answers.specs.declared.Looked as answers
+use Rattle.answers.specs.declared.Looked.TheVariants as looked
+use Rattle.answers.specs.declared.Refusal.{Refusal}
+use Rattle.answers.specs.Answers.{answer_by, found_or_not, lookup_answer, as_looked}
 
 -- by the page that is predicted
 data Predicted (d : Device) (spare : List ℕ) (x n : ℕ) : Option ℕ → Looked → Type 0 where
@@ -116,14 +118,14 @@ module _ (s : State) (spare : List ℕ) (x : ℕ) (t : Bool) (e : t ≡ is_marke
   unmarked_answer f a q = q ∙ ap answer_of (sym (seek_unmarked s spare x (sym e ∙ f)))
 
 -- what the answer says that a lookup came to
-pub looked_is : (l : Lookup) (a : Looked) → lookup_answer l ≡ answer_of a → as_looked l ≡ a
-unfolding lookup_answer answer_of as_looked
-looked_is (lookup.Found f) (at p q n) e = cc
-looked_is (lookup.Found f) (nowhere n) e = let z : ◌≡◌ {A = ℕ} 0 1 = cc in absurd (omega arith)
-looked_is (lookup.Found f) unnamed e = let z : ◌≡◌ {A = ℕ} 0 1 = cc in absurd (omega arith)
-looked_is (lookup.NotWritten m) (at p q n) e = let z : ◌≡◌ {A = ℕ} 0 1 = cc in absurd (omega arith)
-looked_is (lookup.NotWritten m) (nowhere n) e = cc
-looked_is (lookup.NotWritten m) unnamed e = let z : ◌≡◌ {A = ℕ} 0 1 = cc in absurd (omega arith)
-looked_is (lookup.Refused r) (at p q n) e = let z : ◌≡◌ {A = ℕ} 0 1 = cc in absurd (omega arith)
-looked_is (lookup.Refused r) (nowhere n) e = let z : ◌≡◌ {A = ℕ} 0 1 = cc in absurd (omega arith)
-looked_is (lookup.Refused r) unnamed e = refl
+pub looked_is : (l : Result answers.Looked Refusal) (a : Looked) → lookup_answer l ≡ answer_of a → as_looked l ≡ a
+unfolding answer_by found_or_not answer_of as_looked
+looked_is (Ok (looked.Found f)) (at p q n) e = cc
+looked_is (Ok (looked.Found f)) (nowhere n) e = let z : ◌≡◌ {A = ℕ} 0 1 = cc in absurd (omega arith)
+looked_is (Ok (looked.Found f)) unnamed e = let z : ◌≡◌ {A = ℕ} 0 1 = cc in absurd (omega arith)
+looked_is (Ok (looked.NotWritten m)) (at p q n) e = let z : ◌≡◌ {A = ℕ} 0 1 = cc in absurd (omega arith)
+looked_is (Ok (looked.NotWritten m)) (nowhere n) e = cc
+looked_is (Ok (looked.NotWritten m)) unnamed e = let z : ◌≡◌ {A = ℕ} 0 1 = cc in absurd (omega arith)
+looked_is (Err r) (at p q n) e = let z : ◌≡◌ {A = ℕ} 0 1 = cc in absurd (omega arith)
+looked_is (Err r) (nowhere n) e = let z : ◌≡◌ {A = ℕ} 0 1 = cc in absurd (omega arith)
+looked_is (Err r) unnamed e = refl

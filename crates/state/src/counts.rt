@@ -8,6 +8,7 @@ ghost use Rattle.state.specs.Shaped.{Shaped};
 use front::Numbers;
 
 // Block k's count becomes v.
+// Kept: what may not change is this promise, of the whole state; front::counts::set_count promises the front's bytes alone.
 pub fn set_count(state: &mut [u8], d: Numbers, k: u32, v: u32)
     requires { Shaped (numbers_of d) (read_state state.old) × (k < d.m) × (v < 65536) }
     ensures { read_state state.new

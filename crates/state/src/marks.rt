@@ -67,15 +67,12 @@ fn unmark(state: &mut [u8], d: Numbers, x: u32)
     set_marks_byte(state, d, x / 8, byte - (1 << (x % 8)));
 }
 
-// 0 where the byte of logical page x's mark has no mark, else 1.
-fn has_marks(state: &[u8], d: Numbers, x: u32) -> usize
-    requires { Shaped (numbers_of d) (read_state state.now) × (x < d.n) }
-    ensures { (result ≤ 1) × (result ≡ 0 → (y : ℕ) → y / 8 ≡ x / 8 → is_marked (read_state state.now).marks y ≡ false) }
+// Whether byte k of the marks has a mark.
+fn has_marks(state: &[u8], d: Numbers, k: u32) -> bool
+    requires { Shaped (numbers_of d) (read_state state.now) × (k < marks_count (numbers_of d)) }
+    ensures { result ≡ false → (y : ℕ) → y / 8 ≡ k → is_marked (read_state state.now).marks y ≡ false }
 {
-    if marks_byte(state, d, x / 8) == 0 {
-        return 0;
-    }
-    1
+    marks_byte(state, d, k) != 0
 }
 
 // Whether a logical page of the batch may be marked: where not, clearing their marks changes nothing. They are counted, so that
@@ -85,10 +82,8 @@ fn may_be_marked(state: &[u8], d: Numbers, batch: &[u32]) -> bool
     ensures { result ≡ false → unmark_all batch.now (read_state state.now).marks ≡ (read_state state.now).marks }
 {
     let mut count = 0;
-    let mut i = 0;
-    while i < batch.len() {
-        count += has_marks(state, d, batch[i]);
-        i += 1;
+    for &x in batch {
+        count += usize::from(has_marks(state, d, x / 8));
     }
     0 < count
 }
@@ -101,51 +96,34 @@ pub fn unmark_all(state: &mut [u8], d: Numbers, batch: &[u32])
     if !may_be_marked(state, d, batch) {
         return;
     }
-    let mut i = 0;
-    while i < batch.len() {
-        unmark(state, d, batch[i]);
-        i += 1;
+    for &x in batch {
+        unmark(state, d, x);
     }
 }
 
-// Whether one of the m logical pages from x on may be marked: where not, none is. x is the first page of a byte of the marks. The bytes
-// with marks are counted, so that there is no branch for each.
+// Whether one of the m logical pages from x on may be marked: where not, none is. The bytes with marks are counted, so that there is
+// no branch for each.
 fn any_marked(state: &[u8], d: Numbers, x: u32, m: u32) -> bool
-    requires { Shaped (numbers_of d) (read_state state.now) × (x % 8 ≡ 0) × (x + m ≤ d.n) }
+    requires { Shaped (numbers_of d) (read_state state.now) × (x + m ≤ d.n) }
     ensures { result ≡ false → (o : ℕ) → o < m → is_marked (read_state state.now).marks (x + o) ≡ false }
 {
     let mut marked = 0;
-    let mut o = 0;
-    while o < m {
-        marked += has_marks(state, d, x + o);
-        o += 8;
+    for k in x / 8..(x + m).div_ceil(8) {
+        marked += usize::from(has_marks(state, d, k));
     }
     0 < marked
 }
 
-// 0 where logical page x is marked, otherwise f.
-fn unless_marked(state: &[u8], d: Numbers, x: u32, f: u32) -> u32
-    requires { Shaped (numbers_of d) (read_state state.now) × (x < d.n) }
-    ensures { (is_marked (read_state state.now).marks x ≡ true → result ≡ 0)
-        × (is_marked (read_state state.now).marks x ≡ false → result ≡ f) }
-{
-    if is_marked(state, d, x) {
-        return 0;
-    }
-    f
-}
-
 // The forecasts of the marked ones among the m logical pages from x on become 0: of a discarded page no record is looked at.
 pub(crate) fn mark_out(state: &[u8], d: Numbers, x: u32, m: u32, forecasts: &mut [u32])
-    requires { Shaped (numbers_of d) (read_state state.now) × (x % 8 ≡ 0) × (x + m ≤ d.n) × (m ≤ length forecasts.old) }
+    requires { Shaped (numbers_of d) (read_state state.now) × (x + m ≤ d.n) × (m ≤ length forecasts.old) }
     ensures { MarkedOut (read_state state.now).marks x m forecasts.old forecasts.new }
 {
     if !any_marked(state, d, x, m) {
         return;
     }
-    let mut o = 0;
-    while o < m {
-        forecasts[o as usize] = unless_marked(state, d, x + o, forecasts[o as usize]);
-        o += 1;
+    for o in 0..m {
+        let f = forecasts[o as usize];
+        forecasts[o as usize] = if is_marked(state, d, x + o) { 0 } else { f };
     }
 }

@@ -1,11 +1,12 @@
 // A lookup in a sound group: from a logical page to the page that holds it, by the records and the predicted page's entries, unless it
 // is discarded.
-ghost use Rattle.std.specs.Prelude.{◌≡◌, true, List, ℕ, ◌+◌, ◌%◌, ◌<◌, ◌≤◌, length, get_or};
-ghost use Rattle.model.specs.Device.{within_limits, group_of, offset_of, spare_length};
+ghost use Rattle.std.specs.Prelude.{◌≡◌, true, false, List, ℕ, ◌+◌, ◌%◌, ◌<◌, ◌≤◌, length, get_or};
+ghost use Rattle.model.specs.Device.{group_of, offset_of, spare_length};
 ghost use Rattle.model.specs.Record.{predict};
 ghost use Rattle.model.specs.State.{group_at};
 ghost use Rattle.model.specs.Sound.{sound_group};
-ghost use Rattle.calls.specs.Lookup.{Looked, looked_at, descend, seek, answer_of};
+ghost use Rattle.calls.specs.Lookup as calls;
+ghost use Rattle.calls.specs.Lookup.{looked_at, descend, seek, answer_of};
 ghost use Rattle.front.specs.Read.{numbers_of};
 ghost use Rattle.record.specs.Read.{as_record};
 ghost use Rattle.answers.specs.Answers.{lookup_answer};
@@ -15,59 +16,50 @@ ghost use Rattle.state.specs.Telling.{Tells, plainly};
 
 use crate::groups::{find, foretell};
 use crate::marks::{is_marked, mark_out};
-use answers::{Found, Lookup, Refusal};
+use answers::{Found, Looked, Refusal};
 use forecast::{LEVEL, PAGE_0};
 use front::Numbers;
-use group::Hit;
-use record::{Page, Record};
-use spare::{Named, middle};
+use record::Record;
+use spare::{middle, page_named};
 
 // What comes of a lookup whose record is r, after n levels: from the predicted page's entries alone.
-fn named(spare: &[u32], d: Numbers, page: u32, r: Record, n: u32) -> Lookup
-    requires { (within_limits (numbers_of d) ≡ true) × (length spare.now ≡ spare_length (numbers_of d)) × (r.word ≤ 513) }
+fn named(spare: &[u32], d: Numbers, page: u32, r: Record, n: u32) -> Result<Looked, Refusal>
+    requires { (length spare.now ≡ spare_length (numbers_of d)) × (r.word ≤ 513) }
     ensures { (L : List ℕ) → lookup_answer result ≡ answer_of (looked_at (numbers_of d) spare.now page n (predict (as_record r L) (offset_of page))) }
 {
-    let o = page % 256;
-    let pages = d.m * d.b;
-    let predicted = r.page(o, pages);
-    let Page::At(q) = predicted else {
-        return Lookup::Refused(Refusal::NotNamed);
-    };
-    let Named::Page(p) = spare::page_named(spare, d, q, page) else {
-        return Lookup::Refused(Refusal::NotNamed);
-    };
-    Lookup::Found(Found {
+    let q = r.page(page % 256, d.m * d.b).ok_or(Refusal::NotNamed)?;
+    let p = page_named(spare, d, q, page).ok_or(Refusal::NotNamed)?;
+    Ok(Looked::Found(Found {
         page: p,
         predicted: q,
         levels: n,
-    })
+    }))
 }
 
 // What the records say of a logical page whose group is sound.
-fn descend(state: &[u8], spare: &[u32], d: Numbers, page: u32) -> Lookup
+fn descend(state: &[u8], spare: &[u32], d: Numbers, page: u32) -> Result<Looked, Refusal>
     requires { Shaped (numbers_of d) (read_state state.now) × (length spare.now ≡ spare_length (numbers_of d)) × (page < d.n)
         × (sound_group d.n (group_of page) (group_at (read_state state.now) (group_of page)) ≡ true) }
     ensures { lookup_answer result ≡ answer_of (descend (read_state state.now) spare.now page) }
 {
-    let k = page / 256;
-    let o = page % 256;
-    let hit = find(state, d, k, o);
-    match hit {
-        Hit::At(r, n) => named(spare, d, page, r, n),
-        Hit::Nowhere(n) => Lookup::NotWritten(n),
+    let found = find(state, d, page / 256, page % 256);
+    match found.held {
+        Some(r) => named(spare, d, page, r, found.levels),
+        None => Ok(Looked::NotWritten(found.levels)),
     }
 }
 
 // The lookup itself, where its group is sound: of a discarded page no record is looked at.
-pub fn seek(state: &[u8], spare: &[u32], d: Numbers, page: u32) -> Lookup
+pub fn seek(state: &[u8], spare: &[u32], d: Numbers, page: u32) -> Result<Looked, Refusal>
     requires { Shaped (numbers_of d) (read_state state.now) × (length spare.now ≡ spare_length (numbers_of d)) × (page < d.n)
         × (sound_group d.n (group_of page) (group_at (read_state state.now) (group_of page)) ≡ true) }
     ensures { lookup_answer result ≡ answer_of (seek (read_state state.now) spare.now page) }
 {
     if is_marked(state, d, page) {
-        return Lookup::NotWritten(0);
+        Ok(Looked::NotWritten(0))
+    } else {
+        descend(state, spare, d, page)
     }
-    descend(state, spare, d, page)
 }
 
 // The forecasts of the m logical pages from x on, the first of a sound group: 0 for a discarded one.
@@ -82,53 +74,38 @@ pub fn foretell_pages(state: &[u8], d: Numbers, x: u32, m: u32, forecasts: &mut 
 }
 
 // What comes of a lookup by its forecast.
-pub fn told(spare: &[u32], d: Numbers, page: u32, f: u32) -> Lookup
-    requires { (within_limits (numbers_of d) ≡ true) × (length spare.now ≡ spare_length (numbers_of d)) }
-    ensures { (a : Looked) → Tells (numbers_of d) spare.now page a f → lookup_answer result ≡ answer_of a }
+pub fn told(spare: &[u32], d: Numbers, page: u32, f: u32) -> Result<Looked, Refusal>
+    requires { length spare.now ≡ spare_length (numbers_of d) }
+    ensures { (a : calls.Looked) → Tells (numbers_of d) spare.now page a f → lookup_answer result ≡ answer_of a }
 {
     let levels = f / LEVEL;
     let c = f % LEVEL;
     if c == 0 {
-        return Lookup::NotWritten(levels);
+        return Ok(Looked::NotWritten(levels));
     }
     if c < PAGE_0 {
-        return Lookup::Refused(Refusal::NotNamed);
+        return Err(Refusal::NotNamed);
     }
     let q = c - PAGE_0;
     if d.m * d.b <= q {
-        return Lookup::Refused(Refusal::NotNamed);
+        return Err(Refusal::NotNamed);
     }
-    let Named::Page(p) = spare::page_named(spare, d, q, page) else {
-        return Lookup::Refused(Refusal::NotNamed);
-    };
-    Lookup::Found(Found {
+    let p = page_named(spare, d, q, page).ok_or(Refusal::NotNamed)?;
+    Ok(Looked::Found(Found {
         page: p,
         predicted: q,
         levels,
-    })
+    }))
 }
 
-// Page q if there is one, otherwise page 0.
-fn existing(q: u32, pages: u32) -> u32
-    requires { 0 < pages }
-    ensures { (result < pages) × (q < pages → result ≡ q) }
-{
-    if q < pages {
-        return q;
-    }
-    0
-}
-
-// 0 where the middle entry of the page that a forecast says names the logical page: it is then the page that holds it. Else 1.
-pub fn strays(spare: &[u32], d: Numbers, page: u32, f: u32) -> usize
-    requires { (within_limits (numbers_of d) ≡ true) × (length spare.now ≡ spare_length (numbers_of d)) }
-    ensures { (result ≤ 1) × (result ≡ 0 → (a : Looked) → Tells (numbers_of d) spare.now page a f → a ≡ plainly f) }
+// Whether the middle entry of the page that a forecast says, if there is such a page, names another logical page or nobody: otherwise it
+// is the page that holds this one.
+pub fn strays(spare: &[u32], d: Numbers, page: u32, f: u32) -> bool
+    requires { length spare.now ≡ spare_length (numbers_of d) }
+    ensures { result ≡ false → (a : calls.Looked) → Tells (numbers_of d) spare.now page a f → a ≡ plainly f }
 {
     let pages = d.m * d.b;
     let q = (f % LEVEL + (LEVEL - PAGE_0)) % LEVEL;
-    let at = existing(q, pages);
-    if (pages <= q) | (middle(spare, d, at) != page) {
-        return 1;
-    }
-    0
+    let at = if q < pages { q } else { 0 };
+    (pages <= q) | (middle(spare, d, at) != page)
 }

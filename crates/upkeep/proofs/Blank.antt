@@ -11,7 +11,7 @@ use Rattle.model.specs.Device.{Device, within_limits, group_count, marks_count, 
 use Rattle.model.specs.State.{with_counts, with_marks, with_groups}
 use Rattle.model.proofs.Lists.{length-store}
 use Rattle.front.specs.Formatting.{head_of}
-use Rattle.front.proofs.Head.{head_stored}
+use Rattle.front.proofs.HeadBytes.{head_stored}
 use Rattle.state.specs.Reading.{read_state}
 use Rattle.state.specs.Shaped.{Shaped}
 use Rattle.state.proofs.Places.{head_inside}

@@ -17,7 +17,6 @@ use Rattle.calls.proofs.Refusing.{front-refuses, others_decide}
 use Rattle.group.specs.Reading.{read_group}
 use Rattle.compaction.specs.Passing.{Compactable}
 use Rattle.state.specs.Reading.{group_place, read_state}
-use Rattle.state.specs.Outside.{SameOutside}
 use Rattle.state.specs.Shaped.{Shaped}
 use Rattle.state.specs.Ran.{device_slices, Ran}
 use Rattle.state.proofs.Refusing.{ran-refused, ran-accepted}
@@ -45,10 +44,6 @@ module _ (d : Device) (s : List ℕ) (h : Shaped d (read_state s)) (k a e : ℕ)
 
   pub records-left : (r : ℕ) → r ≡ record_count (compact (read_group part)) → r ≡ record_count (compact (group_at (read_state s) k))
   records-left r q = q ∙ ap (λ (g : Group). record_count (compact g)) is_group
-
--- bytes that all stay are the same outside any group
-pub stays-outside : (d : Device) (k : ℕ) (b : List ℕ) → SameOutside d k b b
-stays-outside d k b = record { before = refl; behind = refl }
 
 -- a call on state: each refusal in order, then the group compacted
 module _ (state : List ℕ) (k : ℕ) (spare : List ℕ) where

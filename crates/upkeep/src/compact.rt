@@ -14,7 +14,7 @@ ghost use Rattle.state.specs.Outside.{SameOutside};
 ghost use Rattle.state.specs.Shaped.{Shaped};
 ghost use Rattle.state.specs.Ran.{device_slices, Ran};
 
-use answers::{Compacted, Opened, Refusal};
+use answers::Refusal;
 use front::Numbers;
 use state::groups::group_sound;
 use state::numbers::{group_count, group_end, group_place};
@@ -33,22 +33,18 @@ fn compact_group(state: &mut [u8], d: Numbers, k: u32) -> u32
     compaction::compact(&mut state[a..e])
 }
 
-// Document 01's compaction. It is lent no spare area: whatever that is, it stays. So does each byte outside the group's part.
-pub fn compact(state: &mut [u8], group: u32) -> Compacted
+// Document 01's compaction; how many records are left. It is lent no spare area: whatever that is, it stays. So does each byte outside
+// the group's part.
+pub fn compact(state: &mut [u8], group: u32) -> Result<u32, Refusal>
     ensures ran { (spare : List ℕ) → Ran (compact_call group) state.old spare (compact_answer result) (device_slices state.new spare) }
     ensures outside { SameOutside (numbers_at state.old) group state.old state.new }
 {
-    let opened = open_state(state);
-    let d = match opened {
-        Opened::Device(d) => d,
-        Opened::Refused(r) => return Compacted::Refused(r),
-    };
+    let d = open_state(state)?;
     if group_count(d) <= group {
-        return Compacted::Refused(Refusal::OutOfRange);
+        return Err(Refusal::OutOfRange);
     }
     if !group_sound(state, d, group) {
-        return Compacted::Refused(Refusal::NotSound);
+        return Err(Refusal::NotSound);
     }
-    let left = compact_group(state, d, group);
-    Compacted::Done(left)
+    Ok(compact_group(state, d, group))
 }

@@ -1,6 +1,6 @@
 // Format: the device numbers, all blocks free, no logical page marked, all groups empty, every spare entry naming nobody.
-ghost use Rattle.std.specs.Prelude.{◌≡◌, true, [], ◌<◌, length, set, replicate};
-ghost use Rattle.model.specs.Device.{within_limits, group_count, marks_count, group_length, state_length};
+ghost use Rattle.std.specs.Prelude.{◌≡◌, [], ◌<◌, length, set, replicate};
+ghost use Rattle.model.specs.Device.{group_count, marks_count, group_length, state_length};
 ghost use Rattle.model.specs.State.{with_counts, with_marks, with_groups};
 ghost use Rattle.calls.specs.Format.{blank_state};
 ghost use Rattle.calls.specs.History.{format_call};
@@ -11,24 +11,22 @@ ghost use Rattle.state.specs.Reading.{read_state};
 ghost use Rattle.state.specs.Shaped.{Shaped};
 ghost use Rattle.state.specs.Ran.{device_slices, Ran};
 
-use answers::{Formatted, Refusal};
-use front::Numbers;
-use front::device::{within_limits, write_numbers};
+use answers::Refusal;
+use front::device::write_numbers;
+use front::{Head, Numbers};
 use group::{OWNED_AT, USED_AT};
 use state::counts::set_count;
 use state::marks::set_marks_byte;
 use state::numbers::{group_count, group_end, group_place, marks_count, state_len};
 
 // Every block becomes free.
+// Kept: the plain engine's format has a twin, but that promises by its own reading, `read_table`; one for both is no plainer.
 fn free_blocks(state: &mut [u8], d: Numbers)
     requires { Shaped (numbers_of d) (read_state state.old) }
     ensures { read_state state.new ≡ with_counts (replicate d.m 0) (read_state state.old) }
 {
-    let m = d.m;
-    let mut k = 0;
-    while k < m {
+    for k in 0..d.m {
         set_count(state, d, k, 0);
-        k += 1;
     }
 }
 
@@ -37,11 +35,8 @@ fn clear_marks(state: &mut [u8], d: Numbers)
     requires { Shaped (numbers_of d) (read_state state.old) }
     ensures { read_state state.new ≡ with_marks (replicate (marks_count (numbers_of d)) 0) (read_state state.old) }
 {
-    let n = marks_count(d);
-    let mut k = 0;
-    while k < n {
+    for k in 0..marks_count(d) {
         set_marks_byte(state, d, k, 0);
-        k += 1;
     }
 }
 
@@ -70,41 +65,44 @@ fn empty_groups(state: &mut [u8], d: Numbers)
     requires { Shaped (numbers_of d) (read_state state.old) }
     ensures { read_state state.new ≡ with_groups (replicate (group_count (numbers_of d)) []) (read_state state.old) }
 {
-    let n = group_count(d);
-    let mut k = 0;
-    while k < n {
+    for k in 0..group_count(d) {
         empty_group(state, d, k);
-        k += 1;
     }
 }
 
 // The state of a device that holds nothing.
 fn blank(state: &mut [u8], d: Numbers)
-    requires { (within_limits (numbers_of d) ≡ true) × (length state.old ≡ state_length (numbers_of d)) }
+    requires { length state.old ≡ state_length (numbers_of d) }
     ensures { read_state state.new ≡ blank_state (numbers_of d) }
 {
-    write_numbers(state, d);
+    write_numbers(state, d.head());
     free_blocks(state, d);
     clear_marks(state, d);
     empty_groups(state, d);
 }
 
 // Document 01's format.
-pub fn format(m: u32, b: u32, n: u32, g: u32, state: &mut [u8], spare: &mut [u32]) -> Formatted
+pub fn format(
+    m: u32,
+    b: u32,
+    n: u32,
+    g: u32,
+    state: &mut [u8],
+    spare: &mut [u32],
+) -> Result<(), Refusal>
     ensures { Ran (format_call (record { M = m; B = b; N = n; g = g }))
         state.old spare.old (format_answer result) (device_slices state.new spare.new) }
 {
-    let d = Numbers { m, b, n, g };
-    if !within_limits(d) {
-        return Formatted::Refused(Refusal::BadNumbers);
-    }
+    let Some(d) = Head { m, b, n, g }.checked() else {
+        return Err(Refusal::BadNumbers);
+    };
     if state.len() != state_len(d) {
-        return Formatted::Refused(Refusal::BadLength);
+        return Err(Refusal::BadLength);
     }
     if spare.len() != spare::spare_len(d) {
-        return Formatted::Refused(Refusal::BadLength);
+        return Err(Refusal::BadLength);
     }
     blank(state, d);
     spare::erase_all(spare);
-    Formatted::Done
+    Ok(())
 }

@@ -6,6 +6,7 @@ use native.Mathlib.Omega.{arith}
 use native.Mathlib.Nat.{le_refl}
 use native.Mathlib.Numerals.{add-one}
 use lib.ListN.{length, get_or}
+use Rattle.std.specs.Prelude.{None}
 use Rattle.writing.specs.Handed.{first_place, run_group, Counted, Located}
 
 module _ (taken : List ℕ) where
@@ -38,9 +39,9 @@ module _ (taken : List ℕ) where
       page-inside = omega (arith, pages-inside, c.filled i h)
 
 -- The first run is at a place that knows no end.
-pub located_first : (w taken : List ℕ) (n : ℕ) → Located w taken n (record { run = 0; page = 0; end = 0 })
+pub located_first : (w taken : List ℕ) (n : ℕ) → Located w taken n (record { run = 0; page = 0; end = None })
 unfolding first_place
-located_first w taken n = record { page = refl; end = λ h. absurd (let z : ⊥ = omega arith in z) }
+located_first w taken n = record { page = refl; end = λ e h. absurd cc }
 
 -- Fewer runs are there with more.
 pub fewer : (w taken : List ℕ) (m n : ℕ) → m ≤ n → Counted w taken n → Counted w taken m

@@ -1,7 +1,7 @@
 -- Document 01, 'Learning a batch': "The learned records are handed to the table as one list, in ascending order, with the sorted
 -- batch beside it; an approximate record owns the offsets of its run." How run i is read: its record and how many pages it takes
 -- from place i of `out` and of `taken`, and these pages, behind those of the runs before it, from the batch. Assumes nothing.
-use Rattle.std.specs.Prelude.{◌≡◌, true, false, List, [], ℕ, zero, suc, ◌+◌, ◌-◌, ◌≤◌, ◌<◌, ltb, eqb, pos, length, get_or, take, drop}
+use Rattle.std.specs.Prelude.{◌≡◌, true, false, List, [], ℕ, zero, suc, ◌+◌, ◌-◌, ◌≤◌, ◌<◌, ltb, eqb, pos, length, get_or, take, drop, Some}
 use Rattle.model.specs.Lists.{all, elem, ascending}
 use Rattle.model.specs.Device.{group_of}
 use Rattle.model.specs.Record.{Record, Kind, single, accurate, approximate, kind_of, member}
@@ -73,7 +73,7 @@ pub record Counted (w taken : List ℕ) (n : ℕ) : Type 0 where
 -- a place, of n runs in all, has its run's first page, and where its group's runs end if it knows that
 pub record Located (w taken : List ℕ) (n : ℕ) (p : Place) : Type 0 where
   pub page : p.page ≡ first_place taken p.run
-  pub end : p.run < p.end → p.end ≡ runs_end w taken n p.run
+  pub end : (e : ℕ) → p.end ≡ Some e → e ≡ runs_end w taken n p.run
 
 -- the offsets of run i's pages are the members of its record
 abbrev pub Members : List ℕ → List ℕ → ℕ → struct.Record → Type 0

@@ -31,12 +31,12 @@ pub record SoundBytes (b : List ℕ) : Type 0 where
   pub size : length b ≡ group_length
   pub sound : sound_group N number (read_group b) ≡ true
 
--- so, and the run at a place can be put in: the runs up to its end are there, and its record r is sound in that group
-pub record Insertable (b w taken : List ℕ) (p : Place) (r : Record) : Type 0 where
+-- so, and the run at a place can be put in: the runs up to e are there, and its record r is sound in that group
+pub record Insertable (b w taken : List ℕ) (p : Place) (e : ℕ) (r : Record) : Type 0 where
   pub bytes : SoundBytes b
-  pub counted : Counted w taken p.end
-  pub inside : p.run < p.end
-  pub few : p.end ≤ 256
+  pub counted : Counted w taken e
+  pub inside : p.run < e
+  pub few : e ≤ 256
   pub page : p.page ≡ first_place taken p.run
   pub members : Members w taken p.run r
   pub sound : sound_record bytes.N bytes.number (owning w taken p.run r) ≡ true

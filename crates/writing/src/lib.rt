@@ -21,13 +21,12 @@ use front::Numbers;
 use record::Record;
 use state::numbers::{group_end, group_place};
 
-// A place in what is handed over: a run, the first of its pages in the batch, and where the runs of its group end; where `end` is
-// `run`, that isn't known yet.
+// A place in what is handed over: a run, the first of its pages in the batch, and where the runs of its group end, if that is known.
 #[derive(Clone, Copy)]
 struct Place {
     run: usize,
     page: usize,
-    end: usize,
+    end: Option<usize>,
 }
 
 // The mask, empty before, gets the offsets of n pages of the batch, from place `at` on.
@@ -35,15 +34,13 @@ fn fill_mask(mask: &mut [u8], written: &[u32], at: usize, n: usize)
     requires { (length mask.old ≡ 256) × ((o : ℕ) → o < 256 → masked mask.old o ≡ false) × (at + n ≤ length written.now) }
     ensures { (o : ℕ) → o < 256 → masked mask.new o ≡ elem o (offsets_from written.now at n) }
 {
-    let end = at + n;
-    let mut i = at;
-    while i < end {
-        let o = written[i] % 256;
+    for page in &written[at..at + n] {
+        let o = *page % 256;
         mask[o as usize] = 1;
-        i += 1;
     }
 }
 
+// Kept: its answers are one list (Proof.antt): a named one would name the test's number, which the edit limit_one_more changes.
 // A group makes room for n records of the batch: if its records and these are together more than 512, it is compacted.
 fn make_room(b: &mut [u8], n: usize)
     requires { SoundBytes b.old × (n ≤ 256) }
@@ -55,14 +52,13 @@ fn make_room(b: &mut [u8], n: usize)
     }
 }
 
-// A group makes room for its runs from p on, unless it has it: the first of them makes it for all. Then p's record r is inserted.
-fn put_in(b: &mut [u8], written: &[u32], taken: &[u32], p: Place, r: Record)
-    requires { Insertable b.old written.now taken.now p r }
-    ensures { read_group b.new ≡ grown written.now taken.now p.run p.end r (read_group b.old) }
+// A group makes room for its runs from p to the end, unless it has it: the first of them makes it for all. Then p's record r is inserted.
+fn put_in(b: &mut [u8], written: &[u32], taken: &[u32], p: Place, end: usize, r: Record)
+    requires { Insertable b.old written.now taken.now p end r }
+    ensures { read_group b.new ≡ grown written.now taken.now p.run end r (read_group b.old) }
 {
-    let i = p.run;
-    make_room(b, p.end - i);
-    let n = taken[i] as usize;
+    make_room(b, end - p.run);
+    let n = taken[p.run] as usize;
     let mut mask = [0u8; 256];
     fill_mask(&mut mask, written, p.page, n);
     insertion::insert(b, r, &mask);
@@ -73,20 +69,17 @@ fn end_of(written: &[u32], taken: &[u32], n: usize, p: Place, k: u32) -> usize
     requires { Counted written.now taken.now n × (p.run ≤ n) × Located written.now taken.now n p × (k ≡ run_group written.now taken.now p.run) }
     ensures { result ≡ runs_end written.now taken.now n p.run }
 {
-    let end = p.end;
-    if p.run < end {
+    if let Some(end) = p.end {
         return end;
     }
-    let mut run = p.run;
     let mut page = p.page;
-    while run < n {
+    for run in p.run..n {
         if written[page] / 256 != k {
             return run;
         }
         page += taken[run] as usize;
-        run += 1;
     }
-    run
+    n
 }
 
 // Run p's record r is put into the run's group. Answers the place of the next of n runs.
@@ -103,18 +96,16 @@ fn put_in_run(
     ensures { (result.run ≡ p.run + 1) × Located written.now taken.now n result
         × (read_state state.new ≡ put_in written.now taken.now n p.run r (read_state state.old)) }
 {
-    let page = p.page;
     let i = p.run;
-    let k = written[page] / 256;
+    let k = written[p.page] / 256;
     let end = end_of(written, taken, n, p, k);
-    let at = Place { run: i, page, end };
     let a = group_place(d, k);
     let e = group_end(d, k);
-    put_in(&mut state[a..e], written, taken, at, r);
+    put_in(&mut state[a..e], written, taken, p, end, r);
     Place {
         run: i + 1,
-        page: page + taken[i] as usize,
-        end,
+        page: p.page + taken[i] as usize,
+        end: if i + 1 < end { Some(end) } else { None },
     }
 }
 
@@ -136,11 +127,11 @@ fn take_in_runs(
     let mut p = Place {
         run: 0,
         page: 0,
-        end: 0,
+        end: None,
     };
+    // Kept: no range: the place says which run is next, as it says the run's first page.
     while p.run < n {
-        let i = p.run;
-        let r = out[i];
+        let r = out[p.run];
         p = put_in_run(state, d, written, taken, n, p, r);
     }
 }

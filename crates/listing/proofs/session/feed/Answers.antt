@@ -1,5 +1,5 @@
 -- A byte more, and what it prints.
-use Rattle.std.proofs.Common.{◌+◌, refl, arith}
+use Rattle.std.proofs.Common.{◌+◌, refl}
 use lib.Seq.{take_all}
 use Rattle.std.proofs.KnownBytes.{Appends-nil}
 use Rattle.listing.specs.Progress.{fed, fed_prints}
@@ -7,42 +7,40 @@ use Rattle.listing.proofs.Bytes.{going_on}
 use Rattle.listing.proofs.Running.{fed_on, prints_on, on_err}
 use Rattle.listing.proofs.session.feed.Goals as goal
 
-pub loop-i-init : goal.loop-i-init
+pub loop-byte-init : goal.loop-byte-init
 unfolding fed fed_prints
-loop-i-init g c =
-    record { bound = omega arith; going = c.requires.0; handed = c.requires.1; here = refl; printed = Appends-nil _ }
+loop-byte-init g c = record { going = c.requires; here = refl; printed = Appends-nil _ }
 
-pub step-c-requires : goal.step-c-requires
-step-c-requires g c = (c.loop-i.invariant.going, c.loop-i.invariant.handed)
+pub step-laid-requires : goal.step-laid-requires
+step-laid-requires g c = c.loop-byte.invariant.going
 
-pub returns-in_err-c-clause-stopped : goal.returns-in_err-c-clause-stopped
-returns-in_err-c-clause-stopped g c =
-    let step = c.step-c.ensures in
+pub returns-in_err-hand-clause-stopped : goal.returns-in_err-hand-clause-stopped
+returns-in_err-hand-clause-stopped g c =
+    let made = c.step-laid in
     on_err c.from_residual.result _
     (record {
-      taken = c.loop-i.i + 1;
-      cursor = c.step-c.result;
-      going = step.going;
-      leaves = fed_on c.args.bytes.now c.loop-i.i c.loop-i-test.true _ c.loop-i.invariant.here step.leaves;
+      taken = c.loop-byte.byte-index + 1;
+      cursor = record { held = made.new.memory.held; filled = made.new.line.filled; laid = made.result };
+      going = made.ensures.going;
+      leaves = fed_on c.args.bytes.now c.loop-byte.byte-index c.loop-byte-test.true _ c.loop-byte.invariant.here made.ensures.leaves;
     })
 
-pub loop-i-preserved : goal.loop-i-preserved
-loop-i-preserved g c =
-    let v = c.loop-i.invariant in
-    let step = c.step-c.ensures in
+pub loop-byte-preserved : goal.loop-byte-preserved
+loop-byte-preserved g c =
+    let v = c.loop-byte.invariant in
+    let made = c.step-laid in
     let bytes = c.args.bytes.now in
-    let less = c.loop-i-test.true in record {
-      bound = omega arith;
-      going = going_on _ _ step.going;
-      handed = c.in_ok-c.ensures.waits;
-      here = fed_on bytes c.loop-i.i less _ v.here step.leaves;
-      printed = prints_on bytes c.loop-i.i less _ v.here _ _ _ v.printed step.prints c.in_ok-c.ensures.prints;
+    let i = c.loop-byte.byte-index in
+    let less = c.loop-byte-test.true in record {
+      going = going_on (record { held = made.new.memory.held; filled = made.new.line.filled; laid = made.result }) _ made.ensures.going;
+      here = fed_on bytes i less _ v.here made.ensures.leaves;
+      printed = prints_on bytes i less _ v.here _ _ _ v.printed made.ensures.prints c.in_ok-hand.ensures;
     }
 
 pub returns-clause-fed : goal.returns-clause-fed
 returns-clause-fed g c =
-    let v = c.loop-i.invariant in
-    record { going = v.going; leaves = rw (take_all _ _ c.loop-i-test.false) at v.here; handed = v.handed }
+    let v = c.loop-byte.invariant in
+    record { going = v.going; leaves = rw (take_all _ _ c.loop-byte-test.false) at v.here; handed = refl }
 
 pub returns-clause-prints : goal.returns-clause-prints
-returns-clause-prints g c = rw (take_all _ c.args.bytes.now c.loop-i-test.false) at c.loop-i.invariant.printed
+returns-clause-prints g c = rw (take_all _ c.args.bytes.now c.loop-byte-test.false) at c.loop-byte.invariant.printed

@@ -1,18 +1,14 @@
--- At each turn the first i bytes led from the start to where the session stands, and what they print was handed over.
-use Rattle.std.proofs.Common.{length, ◌-◌, ◌≡◌, ◌≤◌, take}
+-- At each turn the bytes before led from the start to where the session stands, and what they print was handed over.
+use Rattle.std.proofs.Common.{◌≡◌, take}
 use Rattle.std.specs.Io.KnownBytes.{Appends}
 use Rattle.listing.specs.Progress.{fed, fed_prints, progress, Going}
 use Rattle.listing.proofs.session.feed.Given as goal
 
-abbrev pub invariant-loop-i : goal.invariant-loop-i
-invariant-loop-i g l = record {
-  bound : l.i ≤ length l.bytes;
-  going : Going l.c l.line l.state l.spare l.out;
-  handed : l.c.laid ≡ 0;
-  here : progress l.c l.line l.state l.spare ≡ fed (take l.i l.bytes) (progress l.fn.from l.fn.line l.fn.state l.fn.spare);
+abbrev pub invariant-loop-byte : goal.invariant-loop-byte
+invariant-loop-byte g l = record {
+  going : Going (record { held = l.memory.held; filled = l.line.filled; laid = 0 }) l.line.bytes l.memory.state l.memory.spare l.out;
+  here : progress (record { held = l.memory.held; filled = l.line.filled; laid = 0 }) l.line.bytes l.memory.state l.memory.spare
+      ≡ fed (take l.byte-index l.bytes) (progress (record { held = l.fn.memory.held; filled = l.fn.line.filled; laid = 0 }) l.fn.line.bytes l.fn.memory.state l.fn.memory.spare);
   printed : Appends (g.W.Write.contents l.fn.output) (g.W.Write.contents l.output)
-      (fed_prints (take l.i l.bytes) (progress l.fn.from l.fn.line l.fn.state l.fn.spare));
+      (fed_prints (take l.byte-index l.bytes) (progress (record { held = l.fn.memory.held; filled = l.fn.line.filled; laid = 0 }) l.fn.line.bytes l.fn.memory.state l.fn.memory.spare));
 }
-
-abbrev pub decreases-loop-i : goal.decreases-loop-i
-decreases-loop-i g l = length l.bytes - l.i

@@ -1,0 +1,9 @@
+-- The answer, packed.
+use borrow.Author.Rules.{rules}
+use Rattle.export.specs.Packing.{packed}
+use Rattle.export.proofs.Answered.{packs}
+use Rattle.export.proofs.hedjosur_format.Goals as goal
+
+pub returns : goal.returns
+unfolding packed
+returns c = packs _ _ _ _ c.packed.ensures c.format.ensures (λ x p. search rules)

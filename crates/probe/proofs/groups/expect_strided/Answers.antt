@@ -1,0 +1,16 @@
+-- At each turn the mask has the offsets of the stride before o.
+use native.Mathlib.Omega.{arith}
+use Rattle.probe.proofs.Filling.{striding_start, striding_turn, striding_end}
+use Rattle.probe.proofs.groups.expect_strided.Goals as goal
+
+pub loop-o-init : goal.loop-o-init
+loop-o-init c = striding_start _ _ _ _ c.requires.3
+
+pub loop-o-preserved : goal.loop-o-preserved
+loop-o-preserved c = striding_turn _ _ _ _ _ c.loop-o.invariant (omega arith) c.requires.2 c.requires.0
+
+pub returns-2 : goal.returns-2
+returns-2 c = striding_end _ _ _ _ _ (striding_turn _ _ _ _ _ c.loop-o.invariant (omega arith) c.requires.2 c.requires.0) (omega arith)
+
+pub returns : goal.returns
+returns c = striding_end _ _ _ _ _ c.loop-o.invariant (omega arith)
