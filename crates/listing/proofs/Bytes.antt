@@ -61,37 +61,37 @@ module _ (byte : ℕ) (c : Cursor) (line state spare out : List ℕ) (g : Going 
         beyond = r.beyond;
       }
 
-  -- a byte that leaves the memory as it is
-  stays : (n : ℕ) (line' : List ℕ) → (byte ≡ newline → ⊥) → n ≤ line_room → length line' ≡ line_room → take n line' ≡ longer (take c.filled line) byte
-      → Stepped byte p state spare out (record { held = c.held; filled = n; laid = 0 }) line' state spare out
-  stays n line' e h long k =
+  -- a byte that leaves the memory as it is, where no output waits
+  stays : (n : ℕ) (line' : List ℕ) → c.laid ≡ 0 → (byte ≡ newline → ⊥) → n ≤ line_room → length line' ≡ line_room → take n line' ≡ longer (take c.filled line) byte
+      → Stepped byte p state spare out (record { held = c.held; filled = n; laid = c.laid }) line' state spare out
+  stays n line' z e h long k =
       record {
         going = record { ready = g.ready; buffer = long; come = h; room = g.room };
         leaves = rw k (sym (other_took byte p e));
-        prints = rw (other_prints byte p e) (laid_nothing out 0 (omega arith));
+        prints = rw (other_prints byte p e, z) (laid_nothing out 0 (omega arith));
         beyond = record { bytes = refl; entries = refl };
       }
 
   -- a byte of the line
-  pub byte_comes : (byte ≡ newline → ⊥) → c.filled < line_room
-      → Stepped byte p state spare out (record { held = c.held; filled = c.filled + 1; laid = 0 }) (set line c.filled byte) state spare out
-  byte_comes e h =
+  pub byte_comes : c.laid ≡ 0 → (byte ≡ newline → ⊥) → c.filled < line_room
+      → Stepped byte p state spare out (record { held = c.held; filled = c.filled + 1; laid = c.laid }) (set line c.filled byte) state spare out
+  byte_comes z e h =
       let long : length (take c.filled line) ≡ c.filled = length-take-le c.filled line (omega (arith, g.buffer)) in
-      stays (c.filled + 1) (set line c.filled byte) e (omega arith) (length-set line c.filled byte ∙ g.buffer)
+      stays (c.filled + 1) (set line c.filled byte) z e (omega arith) (length-set line c.filled byte ∙ g.buffer)
       (rw (add-one c.filled) (take-suc-set line c.filled byte (omega (arith, g.buffer))) ∙ sym (room-longer (take c.filled line) byte (omega arith)))
 
   -- a byte of a line that is too long
-  pub line-full : (byte ≡ newline → ⊥) → line_room ≤ c.filled
-      → Stepped byte p state spare out (record { held = c.held; filled = c.filled; laid = 0 }) line state spare out
-  line-full e h =
+  pub line-full : c.laid ≡ 0 → (byte ≡ newline → ⊥) → line_room ≤ c.filled
+      → Stepped byte p state spare out (record { held = c.held; filled = c.filled; laid = c.laid }) line state spare out
+  line-full z e h =
       let long : length (take c.filled line) ≡ c.filled = length-take-le c.filled line (omega (arith, g.buffer, g.come)) in
-      stays c.filled line e g.come g.buffer (sym (full-longer (take c.filled line) byte (omega arith)))
+      stays c.filled line z e g.come g.buffer (sym (full-longer (take c.filled line) byte (omega arith)))
 
 module _ (c : Cursor) (line state spare out : List ℕ) (g : Going c line state spare out) where
   -- the end of the input, where no line is left
-  pub no_line : c.filled ≡ 0 → Replied (ending (progress c line state spare)) state spare out (record { held = c.held; laid = 0 }) state spare out
+  pub no_line : c.laid ≡ 0 → c.filled ≡ 0 → Replied (ending (progress c line state spare)) state spare out (record { held = c.held; laid = c.laid }) state spare out
   unfolding ending is_empty
-  no_line e = rw e (replied_same c.held state spare out _ 0 out g.ready refl (laid_nothing out 0 (omega arith)))
+  no_line z e = rw (e, z) (replied_same c.held state spare out _ 0 out g.ready refl (laid_nothing out 0 (omega arith)))
 
   -- and where one is
   pub last_line : (t : Turn) (state' spare' out' : List ℕ) → (c.filled ≡ 0 → ⊥)

@@ -11,7 +11,7 @@ use Rattle.std.proofs.Common.{Result, Err}
 use Rattle.std.specs.declared.option.Option.{Option}
 use Rattle.std.specs.Io.KnownBytes.{Appends, Consumes, IsAtEnd}
 use Rattle.std.proofs.KnownBytes.{Consumes-nil, Consumes-trans, Appends-nil, Appends-trans}
-use Rattle.model.proofs.Lists.{store-front}
+use Rattle.model.proofs.Lists.{store-front, length-store}
 use Rattle.lines.specs.Printed.{Laid}
 use Rattle.listing.specs.declared.lent.Held.{Held}
 use Rattle.listing.specs.Session.{transcript}
@@ -25,6 +25,10 @@ pub laid-front : {s t : List ℕ} {n : ℕ} {text : List ℕ} → Laid s t 0 n t
 laid-front {s = s} {n = n} {text = text} l =
     let e : n ≡ length text = omega (arith, l.next) in
     rw (l.stored, e) (store-front s text (omega (arith, l.next, l.inside)))
+
+-- and lies inside the buffer
+pub laid-inside : {s t : List ℕ} {n : ℕ} {text : List ℕ} → Laid s t 0 n text → n ≤ length t
+laid-inside {s = s} {text = text} l = omega (arith, l.inside, ap length l.stored ∙ length-store s 0 text)
 
 -- one byte more: where the session stands, and what was handed over
 module _ (bytes : List ℕ) (i : ℕ) (h : i < length bytes) (p : Progress) {q : Progress} (e : q ≡ fed (take i bytes) p) where

@@ -6,7 +6,7 @@ mod session;
 mod show;
 
 use lent::Memory;
-use session::{LINE, Line, REPLY, run};
+use session::{LINE, Line, OutputBuffer, REPLY, run};
 use std::io;
 
 // How many bytes one read takes at most.
@@ -21,7 +21,10 @@ fn main(rt: HostRuntime) -> io::Result<()> {
         bytes: [0; LINE],
         filled: 0,
     };
-    let mut out = [0u8; REPLY];
+    let mut out = OutputBuffer {
+        bytes: [0; REPLY],
+        waiting: 0,
+    };
     run(
         &mut script,
         &mut output,

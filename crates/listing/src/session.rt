@@ -29,6 +29,13 @@ pub struct Line {
     pub filled: usize,
 }
 
+// The output buffer: at its front what a line prints, and how many bytes of that still wait to be handed to the output.
+#[derive(Drop)]
+pub struct OutputBuffer {
+    pub bytes: [u8; REPLY],
+    pub waiting: usize,
+}
+
 // Lists a group, or says that it is refused; how many bytes that prints.
 fn list_group(memory: &Memory, group: u32, out: &mut [u8]) -> usize
     requires { InMemory memory.now.held memory.now.state memory.now.spare × (length out.old ≡ reply_room) }
@@ -72,33 +79,37 @@ fn obey(memory: &mut Memory, line: &[u8], out: &mut [u8]) -> usize
     lay_refusal(out, answer)
 }
 
-// One byte of the script: a newline ends the line, any other byte belongs to it. How many bytes that prints.
-fn step(memory: &mut Memory, line: &mut Line, byte: u8, out: &mut [u8]) -> usize
-    requires { Going (record { held = memory.old.held; filled = line.old.filled; laid = 0 })
-        line.old.bytes memory.old.state memory.old.spare out.old }
-    ensures { Stepped byte (progress (record { held = memory.old.held; filled = line.old.filled; laid = 0 })
-        line.old.bytes memory.old.state memory.old.spare) memory.old.state memory.old.spare out.old
-        (record { held = memory.new.held; filled = line.new.filled; laid = result })
-        line.new.bytes memory.new.state memory.new.spare out.new }
+// One byte of the script, where no output waits: a newline ends the line, any other byte belongs to it.
+fn step(memory: &mut Memory, line: &mut Line, byte: u8, out: &mut OutputBuffer)
+    requires { Going (record { held = memory.old.held; filled = line.old.filled; laid = out.old.waiting })
+        line.old.bytes memory.old.state memory.old.spare out.old.bytes × (out.old.waiting ≡ 0) }
+    ensures { Stepped byte (progress (record { held = memory.old.held; filled = line.old.filled; laid = out.old.waiting })
+        line.old.bytes memory.old.state memory.old.spare) memory.old.state memory.old.spare out.old.bytes
+        (record { held = memory.new.held; filled = line.new.filled; laid = out.new.waiting })
+        line.new.bytes memory.new.state memory.new.spare out.new.bytes }
 {
     let n = line.filled;
     if byte == b'\n' {
         line.filled = 0;
-        return obey(memory, &line.bytes[..n], out);
+        out.waiting = obey(memory, &line.bytes[..n], &mut out.bytes);
+        return;
     }
     if n < LINE {
         line.bytes[n] = byte;
         line.filled = n + 1;
     }
-    0
 }
 
-// Hands the first n bytes of the output buffer to the output.
-fn hand<W: Write>(output: &mut W, out: &[u8], n: usize) -> io::Result<()>
-    requires { n ≤ length out.now }
-    ensures { OnOk result (Appends (W.contents output.old) (W.contents output.new) (take n out.now)) }
+// Hands what waits in the output buffer to the output; then none waits.
+fn hand<W: Write>(output: &mut W, out: &mut OutputBuffer) -> io::Result<()>
+    requires { out.old.waiting ≤ length out.old.bytes }
+    ensures waits { OnOk result (out.new.waiting ≡ 0) }
+    ensures prints { OnOk result (Appends (W.contents output.old) (W.contents output.new) (take out.old.waiting out.old.bytes)) }
+    ensures same { out.new.bytes ≡ out.old.bytes }
 {
-    output.write_all(&out[..n])
+    output.write_all(&out.bytes[..out.waiting])?;
+    out.waiting = 0;
+    Ok(())
 }
 
 // Bytes of the script, one after the other; what each prints is handed over before the next. A failed write ends it: the bytes before it
@@ -108,39 +119,39 @@ fn feed<W: Write>(
     memory: &mut Memory,
     line: &mut Line,
     bytes: &[u8],
-    out: &mut [u8],
+    out: &mut OutputBuffer,
 ) -> io::Result<()>
-    requires { Going (record { held = memory.old.held; filled = line.old.filled; laid = 0 })
-        line.old.bytes memory.old.state memory.old.spare out.old }
-    ensures fed { IfOk result (λ _. Fed bytes.now (progress (record { held = memory.old.held; filled = line.old.filled; laid = 0 })
-        line.old.bytes memory.old.state memory.old.spare) (record { held = memory.new.held; filled = line.new.filled; laid = 0 })
-        line.new.bytes memory.new.state memory.new.spare out.new) }
-    ensures stopped { OnErr result (Stopped bytes.now (progress (record { held = memory.old.held; filled = line.old.filled; laid = 0 })
-        line.old.bytes memory.old.state memory.old.spare) line.new.bytes memory.new.state memory.new.spare out.new) }
+    requires { Going (record { held = memory.old.held; filled = line.old.filled; laid = out.old.waiting })
+        line.old.bytes memory.old.state memory.old.spare out.old.bytes × (out.old.waiting ≡ 0) }
+    ensures fed { IfOk result (λ _. Fed bytes.now (progress (record { held = memory.old.held; filled = line.old.filled; laid = out.old.waiting })
+        line.old.bytes memory.old.state memory.old.spare) (record { held = memory.new.held; filled = line.new.filled; laid = out.new.waiting })
+        line.new.bytes memory.new.state memory.new.spare out.new.bytes) }
+    ensures stopped { OnErr result (Stopped bytes.now (progress (record { held = memory.old.held; filled = line.old.filled; laid = out.old.waiting })
+        line.old.bytes memory.old.state memory.old.spare) line.new.bytes memory.new.state memory.new.spare out.new.bytes) }
     ensures prints { OnOk result (Appends (W.contents output.old) (W.contents output.new)
-        (fed_prints bytes.now (progress (record { held = memory.old.held; filled = line.old.filled; laid = 0 })
+        (fed_prints bytes.now (progress (record { held = memory.old.held; filled = line.old.filled; laid = out.old.waiting })
         line.old.bytes memory.old.state memory.old.spare))) }
 {
     for byte in bytes {
-        let laid = step(memory, line, *byte, out);
-        hand(output, out, laid)?;
+        step(memory, line, *byte, out);
+        hand(output, out)?;
     }
     Ok(())
 }
 
-// The end of the script; its last line may lack its newline. How many bytes that prints.
-fn finish(memory: &mut Memory, line: &Line, out: &mut [u8]) -> usize
-    requires { Going (record { held = memory.old.held; filled = line.now.filled; laid = 0 })
-        line.now.bytes memory.old.state memory.old.spare out.old }
-    ensures { Replied (ending (progress (record { held = memory.old.held; filled = line.now.filled; laid = 0 })
-        line.now.bytes memory.old.state memory.old.spare)) memory.old.state memory.old.spare out.old
-        (record { held = memory.new.held; laid = result }) memory.new.state memory.new.spare out.new }
+// The end of the script, where no output waits; its last line may lack its newline.
+fn finish(memory: &mut Memory, line: &Line, out: &mut OutputBuffer)
+    requires { Going (record { held = memory.old.held; filled = line.now.filled; laid = out.old.waiting })
+        line.now.bytes memory.old.state memory.old.spare out.old.bytes × (out.old.waiting ≡ 0) }
+    ensures { Replied (ending (progress (record { held = memory.old.held; filled = line.now.filled; laid = out.old.waiting })
+        line.now.bytes memory.old.state memory.old.spare)) memory.old.state memory.old.spare out.old.bytes
+        (record { held = memory.new.held; laid = out.new.waiting }) memory.new.state memory.new.spare out.new.bytes }
 {
     let n = line.filled;
     if n == 0 {
-        return 0;
+        return;
     }
-    obey(memory, &line.bytes[..n], out)
+    out.waiting = obey(memory, &line.bytes[..n], &mut out.bytes);
 }
 
 // Obeys a script, and prints what is refused and what is listed. A proved loop has to end, and nothing says that a script does: the turns
@@ -152,10 +163,10 @@ pub fn run<R: Read, W: Write>(
     input: &mut [u8],
     memory: &mut Memory,
     line: &mut Line,
-    out: &mut [u8],
+    out: &mut OutputBuffer,
 ) -> io::Result<()>
     requires { (length line.old.bytes ≡ line_room) × (length memory.old.state ≡ state_room)
-        × (length memory.old.spare ≡ spare_room) × (length out.old ≡ reply_room) }
+        × (length memory.old.spare ≡ spare_room) × (length out.old.bytes ≡ reply_room) }
     ensures left { Left memory.new.state memory.new.spare }
     ensures session { OnOk result (IfSome (R.remaining script.old) (λ bytes. 0 < length input.old → length bytes < 2 ^ 64
         → LeftBy bytes memory.new.state memory.new.spare)) }
@@ -164,6 +175,7 @@ pub fn run<R: Read, W: Write>(
 {
     memory.held = NOTHING;
     line.filled = 0;
+    out.waiting = 0;
     for turn in 0..u64::MAX {
         let came = script.read(input)?;
         if came == 0 {
@@ -171,6 +183,6 @@ pub fn run<R: Read, W: Write>(
         }
         feed(output, memory, line, &input[..came], out)?;
     }
-    let n = finish(memory, line, out);
-    hand(output, out, n)
+    finish(memory, line, out);
+    hand(output, out)
 }

@@ -1,10 +1,11 @@
 -- What is read from bytes whose numbers and length are known: the counts and the entries. Assumes nothing.
 use mathlib.Core.Path.{◌≡◌, sym, ap, ◌∙◌}
+use mathlib.Core.Bool.{true}
 use mathlib.Core.List.{List}
 use Prim.Native.Nat.{ℕ, ◌+◌, ◌*◌, ◌≤◌, ◌<◌}
 use native.Mathlib.Omega.{arith}
 use lib.ListN.{length, get_or}
-use Rattle.model.specs.Device.{Device}
+use Rattle.model.specs.Device.{Device, within_limits}
 use Rattle.plain.specs.Table.{Table, with_counts, with_entries, table_length, no_page, entry_at}
 use Rattle.octets.specs.Little.{le32}
 use Rattle.front.specs.Reading.{numbers_at, read_counts}
@@ -24,8 +25,8 @@ module _ (d : Device) (s : List ℕ) (h : Shaped d (read_table s)) where
   numbers_are = h.numbers
 
   -- what the front's functions ask for
-  pub front_in : 16 + 2 * d.M ≤ length s
-  front_in = omega (arith, long, end_at d)
+  pub front_in : (16 + 2 * d.M ≤ length s) × (within_limits d ≡ true)
+  front_in = (omega (arith, long, end_at d), h.limits)
 
   pub counts_are : (read_table s).counts ≡ read_counts d s
   unfolding read_table

@@ -58,7 +58,7 @@ module _ (d : Device) (s : List ℕ) (h : Shaped d (read_table s)) where
   pub count-stored_at : (k v : ℕ) → k < d.M → v < 65536 → read_table (store s (16 + 2 * k) (bytes2 v)) ≡ with_counts (set (read_table s).counts k v) (read_table s)
   count-stored_at k v there small =
       stored-read (16 + 2 * k) (bytes2 v) (set (read_table s).counts k v) (read_table s).entries (omega arith)
-      (count-stored d s k v there small (front_in d s h) ∙ ap (λ (cs : List ℕ). set cs k v) (sym (counts_are d s h)))
+      (count-stored d s k v there small (front_in d s h).0 ∙ ap (λ (cs : List ℕ). set cs k v) (sym (counts_are d s h)))
       (entries-kept k v there ∙ sym (entries_are d s h))
 
   -- an entry stored at its place

@@ -94,7 +94,11 @@ module _ {around : List ℕ} {pages n a stop : ℕ} {lent s : List ℕ} {left i 
       let z : pages - i ≡ 0 = omega arith in
       (rw (← f) v.count, sym (v.same ∙ rw (z, take-nil) (store_nil s (a + i * n))))
 
--- where the number of entries a page is known, as many may be written after them, ..
+-- where the number of entries a page is known, its pages have as much room (what an arm asks, which the check finds alone), ..
+pub at_room : (pages n m a l : ℕ) → n ≡ m → a + pages * n ≤ l → a + pages * m ≤ l
+at_room pages n m a l h p = rw (← h) p
+
+-- .. as many may be written after them, ..
 pub at_count : (pages n m stop r : ℕ) → n ≡ m → r ≡ stop - pages * m → r ≡ stop - pages * n
 at_count pages n m stop r h p = rw h p
 

@@ -1,10 +1,11 @@
 -- What is read from bytes whose numbers and length are known: the regions, and their cells. Assumes nothing.
 use mathlib.Core.Path.{◌≡◌, sym, ap, ◌∙◌}
+use mathlib.Core.Bool.{true}
 use mathlib.Core.List.{List, []}
 use Prim.Native.Nat.{ℕ, ◌+◌, ◌*◌, ◌≤◌, ◌<◌}
 use native.Mathlib.Omega.{arith}
 use lib.ListN.{length, get_or}
-use Rattle.model.specs.Device.{Device, group_count, marks_count, count_length, marks_length, group_length, regions, state_length}
+use Rattle.model.specs.Device.{Device, within_limits, group_count, marks_count, count_length, marks_length, group_length, regions, state_length}
 use Rattle.model.specs.Levels.{Group}
 use Rattle.model.specs.State.{State, with_counts, with_marks, with_groups, group_at}
 use Rattle.octets.specs.Little.{le16}
@@ -41,8 +42,8 @@ module _ (d : Device) (s : List ℕ) (h : Shaped d (read_state s)) where
   numbers_are = h.numbers
 
   -- what the front's functions ask for
-  pub front_in : 16 + 2 * d.M ≤ length s
-  front_in = omega (arith, long, end_at d)
+  pub front_in : (16 + 2 * d.M ≤ length s) × (within_limits d ≡ true)
+  front_in = (omega (arith, long, end_at d), h.limits)
 
   pub counts_are : (read_state s).counts ≡ read_counts d s
   unfolding read_state

@@ -61,7 +61,7 @@ module _ (d : Device) (s : List ℕ) (h : Shaped d (read_state s)) where
       ap (λ (q : ℕ). read_state (store s q (bytes2 v))) e
       ∙ stored-read count_region k (bytes2 v) (set (read_state s).counts k v) (read_state s).marks (read_state s).groups (omega arith)
       (ap (λ (q : ℕ). read_counts d (store s q (bytes2 v))) (sym e)
-      ∙ count-stored d s k v there small (front_in d s h)
+      ∙ count-stored d s k v there small (front_in d s h).0
       ∙ ap (λ (cs : List ℕ). set cs k v) (sym (counts_are d s h)))
       (region_other d s (long d s h) count_region k (bytes2 v) there size read_marks marks_region (λ n. omega arith) ∙ sym (marks_are d s h))
       (region_other d s (long d s h) count_region k (bytes2 v) there size read_group group_region (λ n. omega arith) ∙ sym (groups_are d s h))

@@ -12,7 +12,12 @@ pub fn discard(state: &mut [u8], spare: &[u32], page: u32) -> Result<(), Refusal
     ensures { Ran (discard_call page) state.old spare.now (discard_answer result)
         (device_slices state.new spare.now) }
 {
-    let d = open_page(state, spare, page)?;
+    // Kept: a `match`: the edit discard_accepts_refused changes what an arm answers. Behind a `?` it would change the places of the proof as
+    // well, and be refused for that alone.
+    let d = match open_page(state, spare, page) {
+        Ok(d) => d,
+        Err(refusal) => return Err(refusal),
+    };
     mark(state, d, page);
     Ok(())
 }

@@ -52,7 +52,7 @@ returns-then-not-all_below c =
 pub free_count-few-requires : goal.free_count-few-requires
 free_count-few-requires c =
     let p = passed_all _ _ _ c.open_with_spare.ensures _ c.in_ok-d.was in
-    front_in _ _ (opened_with_lem (read_state c.args.state.now) c.args.spare.now _ p.0 p.1).0
+    (front_in _ _ (opened_with_lem (read_state c.args.state.now) c.args.spare.now _ p.0 p.1).0).0
 
 pub returns-then-few : goal.returns-then-few
 unfolding verdict_of refusal_of

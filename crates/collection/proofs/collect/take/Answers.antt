@@ -11,7 +11,7 @@ pub tally_all-requires : goal.tally_all-requires
 tally_all-requires c = (c.requires.0, (limits _ c.requires.0.shape.limits).most_M)
 
 pub free_count-free-requires : goal.free_count-free-requires
-free_count-free-requires c = front_in _ _ c.requires.0.shape
+free_count-free-requires c = (front_in _ _ c.requires.0.shape).0
 
 pub slice_bounds-tally-end : goal.slice_bounds-tally-end
 slice_bounds-tally-end c = omega (arith, (limits _ c.requires.0.shape.limits).most_M)

@@ -8,7 +8,7 @@ use Rattle.collection.proofs.Moved.{write-ready, none_moved, some_moved, lowest_
 use Rattle.collection.proofs.collect.write_moves.Goals as goal
 
 pub lowest_free-k-requires : goal.lowest_free-k-requires
-lowest_free-k-requires c = front_in _ _ c.requires.passed.shape
+lowest_free-k-requires c = (front_in _ _ c.requires.passed.shape).0
 
 pub write_block-requires-clause-shaped : goal.write_block-requires-clause-shaped
 write_block-requires-clause-shaped c =

@@ -6,7 +6,7 @@ use Rattle.collection.proofs.Judging.{pages-few}
 use Rattle.collection.proofs.validity.tally_block.Goals as goal
 
 pub count-requires : goal.count-requires
-count-requires c = (front_in _ _ c.requires.0.shape, c.requires.1)
+count-requires c = ((front_in _ _ c.requires.0.shape).0, c.requires.1)
 
 pub returns-then-count-eq0 : goal.returns-then-count-eq0
 returns-then-count-eq0 c = tally-free _ _ _ _ _ (c.count.ensures.0 ∙ count_is _ _ c.requires.0.shape _) c.if-count-eq0.true

@@ -11,7 +11,7 @@ use Rattle.plaincalls.proofs.Taking.{chooses}
 use Rattle.plaincalls.proofs.collect.take.Goals as goal
 
 pub free_count-free-requires : goal.free_count-free-requires
-free_count-free-requires c = front_in _ _ c.requires.0.shape
+free_count-free-requires c = (front_in _ _ c.requires.0.shape).0
 
 -- it has an entry for each block
 pub take_blocks-requires : goal.take_blocks-requires

@@ -20,7 +20,7 @@ returns-then-is_empty-clause-left c =
     (none_written _ (read_table c.args.state.now) _ c.requires.1 (eqb-true (length c.args.pages.now) 0 (sym c.is_empty.ensures ∙ c.if-is_empty.true))).1
 
 pub lowest_free-k-requires : goal.lowest_free-k-requires
-lowest_free-k-requires c = front_in _ _ c.requires.0.shape
+lowest_free-k-requires c = (front_in _ _ c.requires.0.shape).0
 
 pub write_block-requires : goal.write_block-requires
 write_block-requires c =

@@ -41,7 +41,7 @@ returns-then-not-all_below c =
     (sym c.if-wrong_size.false ∙ c.wrong_size.ensures) (sym c.if-not-all_below.true ∙ c.all_below.ensures))
 
 pub free_count-requires : goal.free_count-requires
-free_count-requires c = front_in _ _ (shape _ c.args.batch.now c.args.plan.now _ (passed_all _ _ _ c.open_table.ensures _ c.in_ok-d.was))
+free_count-requires c = (front_in _ _ (shape _ c.args.batch.now c.args.plan.now _ (passed_all _ _ _ c.open_table.ensures _ c.in_ok-d.was))).0
 
 pub returns-then-free_count-lt-NEEDED : goal.returns-then-free_count-lt-NEEDED
 unfolding verdict_of refusal_of

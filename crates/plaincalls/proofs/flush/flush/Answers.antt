@@ -19,7 +19,7 @@ returns-in_err-d c =
 pub lowest_free-k-requires : goal.lowest_free-k-requires
 lowest_free-k-requires c =
     let p = passed_all _ _ _ c.check.ensures _ c.in_ok-d.was in
-    front_in _ _ (passed _ _ _ _ p.0 p.1).shape
+    (front_in _ _ (passed _ _ _ _ p.0 p.1).shape).0
 
 pub write_batch-count-requires : goal.write_batch-count-requires
 write_batch-count-requires c =

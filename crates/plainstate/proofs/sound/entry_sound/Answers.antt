@@ -21,7 +21,7 @@ unfolding no_page
 returns-then-d-e c = beyond_unsound _ _ _ c.requires.numbers c.if-e-eq-NO_PAGE.false c.if-d-e.true
 
 pub count-requires : goal.count-requires
-count-requires c = (front_in _ _ c.requires, block_inside (numbers_of c.args.d) _ c.if-d-e.false)
+count-requires c = ((front_in _ _ c.requires).0, block_inside (numbers_of c.args.d) _ c.if-d-e.false)
 
 pub returns : goal.returns
 unfolding no_page

@@ -11,7 +11,7 @@ use Rattle.plainstate.proofs.SoundTable.{count_unsound, counting-sound, counting
 use Rattle.plainstate.proofs.sound.sound_by.Goals as goal
 
 pub counts_sound-requires : goal.counts_sound-requires
-counts_sound-requires c = front_in _ _ c.requires.0
+counts_sound-requires c = (front_in _ _ c.requires.0).0
 
 pub returns-then-not-counts_sound-clause-sound : goal.returns-then-not-counts_sound-clause-sound
 returns-then-not-counts_sound-clause-sound c =

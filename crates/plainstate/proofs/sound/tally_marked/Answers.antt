@@ -20,7 +20,7 @@ loop-k-init c = record {
 }
 
 pub count-c-requires : goal.count-c-requires
-count-c-requires c = (front_in _ _ c.requires.0, c.loop-k-test.true)
+count-c-requires c = ((front_in _ _ c.requires.0).0, c.loop-k-test.true)
 
 pub overflow_mul-a : goal.overflow_mul-a
 overflow_mul-a c = let b = counting _ _ c.requires.0 _ _ c.loop-k-test.true c.count-c.ensures.0 c.requires.2 in omega arith

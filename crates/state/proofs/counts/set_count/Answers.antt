@@ -7,7 +7,7 @@ use Rattle.state.proofs.counts.set_count.Goals as goal
 
 pub set_count-requires : goal.set_count-requires
 set_count-requires c = let pre = c.requires in
-    (front_in _ _ pre.0, pre.1, pre.2)
+    ((front_in _ _ pre.0).0, pre.1, pre.2)
 
 pub returns : goal.returns
 returns c = let pre = c.requires in

@@ -6,7 +6,7 @@ use Rattle.state.proofs.Handing.{groups_fail, counts_decide}
 use Rattle.state.proofs.groups.sound.Goals as goal
 
 pub counts_sound-requires : goal.counts_sound-requires
-counts_sound-requires c = front_in _ _ c.requires
+counts_sound-requires c = (front_in _ _ c.requires).0
 
 pub returns-then-groups_sound : goal.returns-then-groups_sound
 returns-then-groups_sound c =
