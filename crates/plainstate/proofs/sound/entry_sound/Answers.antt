@@ -14,7 +14,7 @@ returns-then-e-eq-NO_PAGE c = no_page-sound _ _ c.if-e-eq-NO_PAGE.true
 
 pub overflow_mul-d : goal.overflow_mul-d
 unfolding pages
-overflow_mul-d c = omega (arith, (small _ c.requires.limits).all)
+overflow_mul-d c = omega (arith, (small _ (front_in _ _ c.requires).1).all)
 
 pub returns-then-d-e : goal.returns-then-d-e
 unfolding no_page
